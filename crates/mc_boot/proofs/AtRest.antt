@@ -5,13 +5,13 @@ use Rattle.std.proofs.lemmas.Bool.{cases_lt}
 use Rattle.std.proofs.lemmas.Bool.Decides.{nat_tests}
 use Rattle.std.proofs.lemmas.Grind.{div_ceil_times}
 use Rattle.std.specs.Int.{div_ceil}
-use Rattle.std.specs.Prelude.{Bool, Option, [], false, if◌then◌else◌, int_le, nat_lt, not, pos, refl, true, ℕ, ◌&&◌, ◌*◌, ◌+◌, ◌<◌, ◌==◌, ◌||◌, ◌≡◌, ◌≢◌, ◌≤◌, ◌⊎◌}
+use Rattle.std.specs.Prelude.{Bool, Option, [], false, if◌then◌else◌, int_le, nat_lt, not, pos, refl, true, ℕ, ◌&&◌, ◌*◌, ◌+◌, ◌<◌, ◌||◌, ◌≡◌, ◌≢◌, ◌≤◌, ◌⊎◌}
 use Rattle.mc_boot.proofs.Images.{HasImage}
 use Rattle.mc_boot.proofs.Phases.{larger_size, new_swap_is, starting}
 use Rattle.mc_boot.proofs.Plans.{plan_new, plan_resumed}
 use Rattle.mc_boot.proofs.Starts.{count_of}
 use Rattle.mc_boot.specs.Life.{asked_of, can_swap, done_or_fails, is_at_rest, is_on_trial, is_swap}
-use Rattle.mc_boot.specs.Plan.{Plan, PowerOn, image_size, images_of, new_plan, new_swap, nothing, plan, power_on, resumed_plan, resumed_swap}
+use Rattle.mc_boot.specs.Plan.{Plan, PowerOn, image_size, images_of, new_plan, new_swap, nothing, plan, power_on, resumed_plan}
 use Rattle.mc_boot.specs.declared.image.Images.{Images}
 use Rattle.mc_flash.specs.Flash.{Content, IsSized}
 use Rattle.mc_flash.specs.Geometry.{Geometry, IsLayout, fits, greatest_sectors}
@@ -19,19 +19,15 @@ use Rattle.mc_flash.specs.declared.flash.Grain.{Grain}
 use Rattle.mc_flash.specs.declared.op.Slot.TheVariants.{Primary, Secondary}
 use Rattle.mc_flash.specs.facts.Layouts.{fits_few, greatest_is}
 use Rattle.mc_image.specs.Valid.{is_valid}
-use Rattle.mc_trailer.specs.Tables.{is_good, is_resumed, is_set, is_unset, reverts_at, swap_type, table_of}
+use Rattle.mc_trailer.specs.Tables.{is_good, is_resumed, is_set, is_unset, swap_type, table_of}
 use Rattle.mc_trailer.specs.Trailer.{highest_entry, trailer_of}
 use Rattle.mc_trailer.specs.declared.tables.Profile.{Profile}
 use Rattle.mc_trailer.specs.declared.tables.Rules.{Rules}
 use Rattle.mc_trailer.specs.declared.tables.SwapType.{SwapType}
 use Rattle.mc_trailer.specs.declared.trailer.Flag.{Flag}
-use Rattle.mc_trailer.specs.declared.trailer.Magic.{Magic}
 use Rattle.mc_trailer.specs.declared.trailer.Trailer.{Trailer}
 use Rattle.mc_trailer.specs.facts.Tables.{types_are_rows}
-use Rattle.mc_trailer.specs.declared.trailer.Flag.TheVariants as flags
 use Rattle.mc_trailer.specs.declared.tables.SwapType.TheVariants as kinds
-use Rattle.mc_trailer.specs.declared.trailer.Magic.TheVariants as magics
-use Rattle.mc_trailer.specs.declared.tables.Profile.TheVariants as profiles
 
 -- A device at rest: no swap is under way, and the secondary may hold anything. What its next boot is to do.
 
@@ -63,14 +59,8 @@ RestsOrWants x = Idles x ⊎ (Wants x kinds.Test ⊎ (Wants x kinds.Perm ⊎ Wan
 pub no_swap : (a b c d : Bool) → not (a && b && c) ≡ true → (a && b && d) ≡ true → c ≡ false
 no_swap a b c d rest on = grind (arith, rest, on)
 
-no_type : (a b c : Bool) (p q r z : Plan) → (a || b || c) ≡ false → (if a then p else if b then q else if c then r else z) ≡ z
-no_type a b c p q r z none = grind (arith, none)
-
 pub resumed_none : (c : Grain) (g : Geometry) (p : Trailer) (highest : Option ℕ) → is_swap p.swap_info ≡ false → resumed_plan c g p highest ≡ nothing kinds.None
-resumed_none c g p highest none =
-    let n = div_ceil p.swap_size g.sector in
-    no_type (p.swap_info == 2) (p.swap_info == 3) (p.swap_info == 4) (resumed_swap c g p.image_ok highest kinds.Test n)
-    (resumed_swap c g p.image_ok highest kinds.Perm n) (resumed_swap c g p.image_ok highest kinds.Revert n) (nothing kinds.None) none
+resumed_none c g p highest none = grind arith
 
 images_valid : (s : Content) → (images_of s).valid ≡ is_valid s.secondary
 unfolding images_of
@@ -165,20 +155,13 @@ none_idle x rest none = go (rests_or_wants x rest)
 
 -- ---- what is asked for
 
-no_revert_at : (profile : Profile) (m : Magic) → is_good m ≡ true → reverts_at profile m ≡ false
-no_revert_at profiles.One magics.Good is = refl
-no_revert_at profiles.Two magics.Good is = refl
-no_revert_at profile m is = absurd cc
-
 rows : (gq uq sq gp rv up cp : Bool) → (gq ≡ true → rv ≡ false)
     → (if gq && uq then kinds.Test else if gq && sq then kinds.Perm else if gp && rv && up && cp then kinds.Revert else kinds.None)
     ≡ (if gq then (if uq then kinds.Test else if sq then kinds.Perm else kinds.None) else if (gp && up && cp) && rv then kinds.Revert else kinds.None)
 rows gq uq sq gp rv up cp apart = grind (arith, apart)
 
 pub table_asks : (profile : Profile) (p q : Trailer) → swap_type profile p q ≡ asked_of profile (is_on_trial p) q
-table_asks profile p q =
-    rows (is_good q.magic) (is_unset q.image_ok) (is_set q.image_ok) (is_good p.magic) (reverts_at profile q.magic) (is_unset p.image_ok) (is_set p.copy_done)
-    (λ good. no_revert_at profile q.magic good)
+table_asks profile p q = grind arith
 
 -- ---- whether it can be done
 
@@ -186,8 +169,7 @@ few_small : (g : Geometry) (x : ℕ) → IsLayout g → div_ceil x g.sector ≤ 
 few_small g x ok at_most =
     let wide = ok.least_sector in
     let rows : x ≤ div_ceil x g.sector * g.sector = (div_ceil_times x g.sector (omega (arith, wide))).0 in
-    let most : div_ceil x g.sector * g.sector ≤ greatest_sectors g * g.sector = mul-le-mul_right g.sector at_most in
-    omega (arith, rows, most)
+    grind (arith, mul-le-mul_right, at_most, rows)
 
 small_few : (g : Geometry) (x : ℕ) → IsLayout g → x ≤ greatest_sectors g * g.sector → div_ceil x g.sector ≤ greatest_sectors g
 small_few g x ok small = elim (cases_lt (greatest_sectors g) (div_ceil x g.sector)) [
@@ -220,8 +202,7 @@ module _ (g : Geometry) (ok : IsLayout g) (s : Content) (rest : AtRest g s) wher
   counts : (f : Bool) → fits g (image_size s.secondary) ≡ f → nat_lt (greatest_sectors g) (div_ceil (larger_size s) g.sector) ≡ not f
   counts true fit =
       let at_most = few_small g (image_size s.secondary) ok (fits_few g (image_size s.secondary) ok fit) in
-      let own = rest.at_most in
-      not_below (div_ceil (larger_size s) g.sector) (greatest_sectors g) (small_few g (larger_size s) ok (omega (arith, at_most, own)))
+      grind (arith, rest, at_most, not_below, larger_size, small_few)
   counts false none = elim (cases_lt (greatest_sectors g) (div_ceil (larger_size s) g.sector)) [
     | inl more ↦ below (div_ceil (larger_size s) g.sector) (greatest_sectors g) more
     | inr at_most ↦ absurd (
@@ -246,8 +227,7 @@ asked_none : (profile : Profile) (p q : Trailer) → is_good q.magic ≡ false �
 asked_none profile p q good set = grind (arith, good, set)
 
 not_set : (f : Flag) → is_unset f ≡ true → is_set f ≡ false
-not_set flags.Unset is = refl
-not_set f is = absurd cc
+not_set f is = grind arith
 
 on_parts : (a b c : Bool) → (a && b && not c) ≡ true → (b ≡ true) × (c ≡ false)
 on_parts a b c is = grind (arith, is)

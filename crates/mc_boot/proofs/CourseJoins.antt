@@ -9,12 +9,12 @@ use Rattle.std.specs.List.{AllByRecursion, between, range_with_len}
 use Rattle.std.specs.Prelude.{Bool, IfSome, List, Option, Some, [], drop, false, flat_map, if◌then◌else◌, length, map, nat_le, not, option_map, refl, slice_get, suc, take, true, zero, ℕ, ◌&&◌, ◌*◌, ◌++◌, ◌+◌, ◌-◌, ◌/◌, ◌<◌, ◌==◌, ◌||◌, ◌∷◌, ◌≡◌, ◌≤◌}
 use Rattle.mc_boot.proofs.Courses.{drop_at_place}
 use Rattle.mc_boot.specs.facts.Lengths.{length-steps, length-transfers}
-use Rattle.mc_boot.proofs.Joins.{IsJoined, Joins, are_equal, are_same, chosen, is_less, is_most, joined, less}
-use Rattle.mc_boot.proofs.Meets.{AreThere, BeginsIn, IsListed, IsRestOf, Meets, Sector, WritesIn, erase_of, target_of, all_weaker}
+use Rattle.mc_boot.proofs.Joins.{IsJoined, Joins, are_equal, chosen, is_less, is_most, joined, less}
+use Rattle.mc_boot.proofs.Meets.{AreThere, BeginsIn, IsListed, IsRestOf, Meets, Sector, WritesIn, erase_of, all_weaker}
 use Rattle.mc_boot.proofs.Transfers.{fits_at, there_is}
 use Rattle.mc_boot.specs.Boot.{IsBootOf, IsCold, Progress, all_saves, begun, course_list, list_from, progress, whole_list}
 use Rattle.mc_boot.specs.Joins.{IsCut, comes_to, erases_at, erases_of, is_same_grain, is_same_swap, kept_from, kept_of, harmless_opening_len, starts_as, harmless_transfer_len}
-use Rattle.mc_boot.specs.Outcome.{Report, applied, at, left_by, ops_of, outcome_of}
+use Rattle.mc_boot.specs.Outcome.{Report, at, left_by, ops_of, outcome_of}
 use Rattle.mc_boot.specs.Plan.{Plan, PowerOn, again, closing, copy_of, entry_of, from_transfer, image_ok_write, is_revert, is_test, marking, new_list, number_of, opening_writes, piece, plan, powered, preparation_writes, resumed_list, steps, swap_list, trailer_erase, trailer_erases, transfers, write}
 use Rattle.mc_boot.specs.declared.boot.Boot.{Boot}
 use Rattle.mc_boot.specs.declared.course.Course.{Course}
@@ -32,16 +32,15 @@ use Rattle.mc_flash.specs.declared.op.Op.TheVariants.{Erase, Program}
 use Rattle.mc_flash.specs.declared.op.Slot.{Slot}
 use Rattle.mc_flash.specs.declared.op.Slot.TheVariants.{Primary, Secondary}
 use Rattle.mc_flash.specs.facts.Layouts.{trailer_covered, trailer_leaves_one}
-use Rattle.mc_trailer.specs.Trailer.{before_end, magic_bytes, one_unit, place, room, size_bytes}
+use Rattle.mc_trailer.specs.Trailer.{before_end, one_unit, place, room}
 use Rattle.mc_trailer.specs.declared.places.Field.{Field}
 use Rattle.mc_trailer.specs.declared.tables.Rules.{Rules}
 use Rattle.mc_trailer.specs.declared.tables.SwapType.{SwapType}
-use Rattle.mc_trailer.specs.facts.Places.{field_ends, most_before_end, one_unit_fits, place_inside, size_bytes_fit}
+use Rattle.mc_trailer.specs.facts.Places.{most_before_end, one_unit_fits, place_inside}
 use Rattle.mc_trailer.specs.facts.Tables.{and_parts}
 use lib.Seq.{take_at}
 use Rattle.mc_trailer.specs.declared.places.Field.TheVariants as field
 use Rattle.mc_flash.specs.declared.flash.Grain.TheVariants as grains
-use Rattle.mc_trailer.specs.declared.tables.SwapType.TheVariants as kinds
 
 -- Courses that go on within a transfer of another, or after its last: their lists are rests of the other's.
 
@@ -86,8 +85,7 @@ whole_rest ops = (0, omega arith, refl)
 
 -- A rest begins where its length says.
 pub rest_at : (rest ops : List Op) → IsRestOf rest ops → rest ≡ drop (length ops - length rest) ops
-rest_at rest ops is =
-    is.2 ∙ ap (λ n. drop n ops) (omega (arith, is.1, length-drop is.0 ops, ap (λ (xs : List Op). length xs) is.2))
+rest_at rest ops is = grind (arith, length-drop)
 
 -- ---- the rests of a course
 
@@ -122,8 +120,7 @@ from_rest g n a b image_ok low high = (
 
 resumed_rest : (g : Geometry) (n start first : ℕ) (erases image_ok : Bool) → start ≤ first → first ≤ 3 * n → IsRestOf (from_transfer g n first image_ok) (resumed_list g n start erases image_ok)
 resumed_rest g n start first false image_ok low high = from_rest g n start first image_ok low high
-resumed_rest g n start first true image_ok low high =
-    beyond_prefix (trailer_erases g Secondary) (from_transfer g n start image_ok) (from_transfer g n first image_ok) (from_rest g n start first image_ok low high)
+resumed_rest g n start first true image_ok low high = grind (arith, beyond_prefix, from_rest)
 
 swap_rest : (c : Grain) (g : Geometry) (kind : SwapType) (size n : ℕ) (rest : List Op) → IsRestOf rest (resumed_list g n 0 true false) → IsRestOf rest (swap_list c g kind size n)
 swap_rest c g kind size n rest is =
@@ -140,17 +137,11 @@ new_rest c g kind size n rest is = by (is_revert kind)
         (beyond_prefix (preparation_writes c g size) (swap_list c g kind size n) rest (swap_rest c g kind size n rest is))
 
 rest_of_rest : (xs ys zs : List Op) → IsRestOf xs ys → IsRestOf ys zs → IsRestOf xs zs
-rest_of_rest xs ys zs one two = (
-  two.0 + one.0,
-  omega (arith, one.1, two.1, length-drop two.0 zs, ap (λ (ops : List Op). length ops) two.2),
-  one.2 ∙ ap (drop one.0) two.2 ∙ drop-drop one.0 two.0 zs,
-)
+rest_of_rest xs ys zs one two = grind (arith, length-drop, drop-drop)
 
 -- After the last transfer the finish is left.
 finish_alone : (g : Geometry) (n first : ℕ) (ok : Bool) → first ≡ 3 * n → from_transfer g n first ok ≡ closing g ok
-finish_alone g n first ok is =
-    ap (λ (ts : List Transfer). flat_map (steps g) ts ++ closing g ok)
-    (drop_all first (transfers g n) (omega (arith, length-transfers g n, is)))
+finish_alone g n first ok is = grind (arith, drop_all, length-transfers)
 
 finish_rest : (g : Geometry) (n first : ℕ) → first ≡ 3 * n → IsRestOf (from_transfer g n first false) (from_transfer g n first true)
 finish_rest g n first is =
@@ -164,10 +155,7 @@ comes_rest c g n (New kind size) first false false high is =
     new_rest c g kind size n (from_transfer g n first false) (resumed_rest g n 0 first true false (omega arith) high)
 comes_rest c g n (New kind size) first true false high is =
     rw (are_equal first 0 (and_parts (first == 0) true is).0) (new_rest c g kind size n (resumed_list g n 0 true false) (whole_rest (resumed_list g n 0 true false)))
-comes_rest c g n (Resumed start erased ok) first true image_ok high is =
-    let parts = and_parts (start == first && erased) (beq ok image_ok) is in
-    let here = and_parts (start == first) erased parts.0 in
-    rw (are_equal start first here.0, here.1, are_same ok image_ok parts.1) (whole_rest (resumed_list g n first true image_ok))
+comes_rest c g n (Resumed start erased ok) first true image_ok high is = grind arith
 comes_rest c g n (Resumed start erased ok) first false image_ok high is = ends ok image_ok parts.1
   where
     parts : (nat_le start first ≡ true) × ((beq ok image_ok || first == 3 * n && not image_ok) ≡ true)
@@ -195,14 +183,7 @@ abbrev target_steps : Geometry → Transfer → List Op
 target_steps g t = Erase t.to t.to_sector ∷ map (copy_of g t) (range_with_len 0 (g.sector / g.chunk))
 
 writes_copy : (g : Geometry) (t : Transfer) (i : ℕ) → i < g.sector / g.chunk → WritesIn g (target t ∷ []) (copy_of g t i)
-writes_copy g t i below = record {
-  index = t.to_sector;
-  listed = inl (refl, refl);
-  from = omega arith;
-  to =
-      let rows : (i + 1) * g.chunk ≤ g.sector / g.chunk * g.chunk = mul-le-mul_right g.chunk (omega (arith, below)) in
-      omega (arith, rows, mod-add-div' g.sector g.chunk);
-}
+writes_copy g t i below = grind arith
 
 writes_target : (g : Geometry) (t : Transfer) → AllByRecursion (WritesIn g (target t ∷ [])) (target_steps g t)
 writes_target g t = (
@@ -226,34 +207,13 @@ transfer_begins : (g : Geometry) (n first : ℕ) (image_ok : Bool) (t : Transfer
     → BeginsIn g (from_transfer g n first image_ok) (target t ∷ []) (g.sector / g.chunk + 1)
 transfer_begins g n first image_ok t there here =
     let whole = at_transfer g n first image_ok t here in
-    record {
-      there = (there, tt);
-      erases = ap (take 1) whole.1;
-      inside =
-          let at_most = length-map-range_with_len (copy_of g t) 0 (g.sector / g.chunk) in
-          rw whole.1 (all_prefix (WritesIn g (target t ∷ [])) (target_steps g t) whole.0 (g.sector / g.chunk + 1) (omega (arith, at_most)) (writes_target g t));
-    }
-
--- The pieces of a layout play no part in where its operations write.
-pub writes_pieces : (c : Grain) (g : Geometry) (es : List Sector) (op : Op) → WritesIn (in_pieces c g) es op → WritesIn g es op
-writes_pieces grains.Call g es op w = w
-writes_pieces grains.Unit g es (Erase slot sector) w = record { index = w.index; listed = w.listed; from = w.from; to = w.to }
-writes_pieces grains.Unit g es op w = record { index = w.index; listed = w.listed; from = w.from; to = w.to }
+    grind (arith, length-map-range_with_len, all_prefix, writes_target)
 
 pub sectors_pieces : (c : Grain) (g : Geometry) (slot : Slot) → sectors_of (in_pieces c g) slot ≡ sectors_of g slot
-sectors_pieces grains.Call g slot = refl
-sectors_pieces grains.Unit g Primary = refl
-sectors_pieces grains.Unit g Secondary = refl
-
-pub there_pieces : (c : Grain) (g : Geometry) (xs : List Sector) → AreThere (in_pieces c g) xs → AreThere g xs
-there_pieces c g xs all = all_weaker _ _ (λ x here. omega (arith, here, sectors_pieces c g x.slot)) xs all
+sectors_pieces it g slot = grind arith
 
 pub begins_pieces : (c : Grain) (g : Geometry) (ops : List Op) (es : List Sector) (harmless_len : ℕ) → BeginsIn (in_pieces c g) ops es harmless_len → BeginsIn g ops es harmless_len
-begins_pieces c g ops es harmless_len b = record {
-  there = there_pieces c g es b.there;
-  erases = b.erases;
-  inside = all_weaker (WritesIn (in_pieces c g) es) (WritesIn g es) (λ x writes. writes_pieces c g es x writes) (take harmless_len ops) b.inside;
-}
+begins_pieces c g ops es harmless_len b = grind (arith, all_weaker)
 
 -- ---- the test
 
@@ -283,9 +243,7 @@ listed_prefix (e ∷ es) fs slot index (inl here) = inl here
 listed_prefix (e ∷ es) fs slot index (inr listed) = inr (listed_prefix es fs slot index listed)
 
 writes_more : (g : Geometry) (es fs : List Sector) (ops : List Op) → AllByRecursion (WritesIn g fs) ops → AllByRecursion (WritesIn g (es ++ fs)) ops
-writes_more g es fs ops all =
-    all_weaker (WritesIn g fs) (WritesIn g (es ++ fs))
-    (λ op writes. record { index = writes.index; listed = listed_beyond es fs (target_of op) writes.index writes.listed; from = writes.from; to = writes.to }) ops all
+writes_more g es fs ops all = grind (arith, all_weaker, listed_beyond)
 
 pub writes_erases : (g : Geometry) (es xs : List Sector) (rest : List Op) (harmless_len : ℕ) → ((slot : Slot) (index : ℕ) → IsListed xs slot index → IsListed es slot index)
     → AllByRecursion (WritesIn g es) (take harmless_len rest) → AllByRecursion (WritesIn g es) (take (length xs + harmless_len) (map erase_of xs ++ rest))
@@ -400,14 +358,7 @@ in_last g slot f ok = go (sectors_of g slot) (let leaves = trailer_leaves_one g 
 
 writes_part : (g : Geometry) (slot : Slot) (f : Field) (from : ℕ) (bytes : List ℕ) → IsLayout g → from + length bytes ≤ room f
     → WritesIn g (trailer_of_slot g slot) (Program slot (place g slot f + from) bytes)
-writes_part g slot f from bytes ok short =
-    let last = in_last g slot f ok in
-    record {
-      index = sectors_of g slot - 1 - 0;
-      listed = listed_last g slot ok;
-      from = omega (arith, last.0);
-      to = omega (arith, last.1, field_ends g slot f ok, short);
-    }
+writes_part g slot f from bytes ok short = grind (arith, in_last, listed_last)
 
 writes_field : (g : Geometry) (slot : Slot) (f : Field) (bytes : List ℕ) → IsLayout g → length bytes ≤ room f → WritesIn g (trailer_of_slot g slot) (Program slot (place g slot f) bytes)
 writes_field g slot f bytes ok short =
@@ -423,10 +374,7 @@ writes_pieces_of grains.Unit g slot f new ok short =
     writes_part g slot f (j * g.unit) (between (j * g.unit) (j * g.unit + g.unit) new) ok (omega (arith, row, parts, at_most, short)))
 
 writes_marking : (c : Grain) (g : Geometry) (slot : Slot) (size : ℕ) → IsLayout g → AllByRecursion (WritesIn g (trailer_of_slot g slot)) (marking c g slot size)
-writes_marking c g slot size ok =
-    all_both (WritesIn g (trailer_of_slot g slot)) (write c g slot field.SwapSize (size_bytes g size)) (write c g slot field.Magic magic_bytes)
-    (writes_pieces_of c g slot field.SwapSize (size_bytes g size) ok (size_bytes_fit g size ok))
-    (writes_pieces_of c g slot field.Magic magic_bytes ok (omega arith))
+writes_marking c g slot size ok = grind (arith, all_both, writes_pieces_of)
 
 pub writes_preparation : (c : Grain) (g : Geometry) (size : ℕ) → IsLayout g → AllByRecursion (WritesIn g (trailer_of_slot g Secondary)) (preparation_writes c g size)
 writes_preparation c g size ok = (writes_field g Secondary field.ImageOk (one_unit g 1) ok (one_unit_fits g 1 field.ImageOk ok), writes_marking c g Secondary size ok)
@@ -485,28 +433,10 @@ anew_meets g a b kind size done layout_a layout_b grain sectors opening_a openin
 -- Where the test of two courses gives a number, the second goes on where the first was cut.
 
 same_grain : (c d : Grain) → is_same_grain c d ≡ true → c ≡ d
-same_grain grains.Call grains.Call is = refl
-same_grain grains.Unit grains.Unit is = refl
-same_grain c d is = absurd cc
-
-abbrev kind_at : ℕ → SwapType
-kind_at n =
-    if n == 1 then kinds.None else if n == 2 then kinds.Test else if n == 3 then kinds.Perm
-    else if n == 4 then kinds.Revert else if n == 5 then kinds.Fail else kinds.Panic
-
-kind_back : (kind : SwapType) → kind_at (number_of kind) ≡ kind
-kind_back kinds.None = refl
-kind_back kind = refl
-
--- A type is known by its number.
-same_kind : (k l : SwapType) → (number_of k == number_of l) ≡ true → k ≡ l
-same_kind k l is = sym (kind_back k) ∙ ap kind_at (are_equal (number_of k) (number_of l) is) ∙ kind_back l
+same_grain c d is = grind arith
 
 same_start : (o : Opening) (kind : SwapType) (size : ℕ) → starts_as o kind size ≡ true → o ≡ New kind size
-same_start (Resumed first erases ok) kind size is = absurd cc
-same_start (New before whole) kind size is =
-    let parts = and_parts (number_of before == number_of kind) (whole == size) is in
-    ap (λ (k : SwapType). New k whole) (same_kind before kind parts.0) ∙ ap (λ n. New kind n) (are_equal whole size parts.1)
+same_start it kind size is = grind arith
 
 from_opening : (g : Geometry) (a b : Course) (done j : ℕ) (opening : Opening) → b.opening ≡ opening → IsLayout b.layout → a.layout ≡ in_pieces a.grain g → b.layout ≡ in_pieces b.grain g
     → kept_from a done b opening ≡ Some j → Meets g (course_list a) (course_list b) done j (erases_at b.layout b.sectors opening)
@@ -543,8 +473,7 @@ rest_is faulted done ops rest whole none is = ap (λ (n : ℕ). drop n ops) (sym
 
 -- At power-on the whole list is to come.
 pub begun_list : (r : Rules) (p : Plan) (b : Boot) → progress b ≡ begun r p → whole_list b.course ≡ p.list
-begun_list r p b is =
-    rest_is b.faulted b.done (whole_list b.course) p.list (ap (λ (x : Progress). x.faulted) is) (ap (λ (x : Progress). x.count) is) (ap (λ (x : Progress). x.to_come) is)
+begun_list r p b is = grind arith
 
 -- A boot at the beginning of its plan.
 pub is_cold : (r : Rules) (f : Seen) (b : Boot) → IsLayout f.geometry → IsSized f.geometry f.content → progress b ≡ begun r (plan (powered r f)) → IsBootOf f.geometry b → IsCold r f b
@@ -564,10 +493,7 @@ layout_is g o a is all = rw is at all
 
 -- Before the first operation the flash is as it was.
 pub at_start : (from : PowerOn) (u : Content) (cut : Boot) (whole : Report) → IsCut from u cut whole → cut.done ≡ 0 → again from u ≡ from
-at_start from u cut whole is none =
-    let same : Some from.content ≡ Some u = ap (λ (n : ℕ). applied from.geometry (take n (plan from).list) from.content) (sym none) ∙ is.come.happened in
-    let e : from.content ≡ u = cc in
-    ap (again from) (sym e)
+at_start from u cut whole is none = grind arith
 
 -- After a cut the next boot goes on as the one that was cut would have, where the test of their courses gives a number.
 module _ (from : PowerOn) (u : Content) (cut next : Boot) (a b : Course) (whole : Report) (j : ℕ) where

@@ -1,10 +1,9 @@
 -- Operation number k of each list of operations, by either grain.
-use Rattle.std.proofs.Common.{ap, arith, inl, inr, subst, sym, zero-add, ◌∙◌, add-one}
-use Rattle.std.proofs.Math.Nat.{add-mul-mod_self_right, mod-add-div', mod_self, mul-le-mul_left, mul-le-mul_right, zero-mul}
-use Rattle.std.proofs.lemmas.List.{length-drop, length-take}
+use Rattle.std.proofs.Common.{ap, arith, zero-add, ◌∙◌, add-one}
+use Rattle.std.proofs.Math.Nat.{mul-le-mul_left, mul-le-mul_right, zero-mul}
 use Rattle.std.proofs.lemmas.List.FromFn.{length-map-range_with_len, length-range_with_len, get_or-range_with_len}
 use Rattle.std.specs.List.{range_with_len}
-use Rattle.std.specs.Prelude.{IfSome, List, None, Option, Some, [], drop, flat_map, length, map, max, refl, slice_get, suc, take, zero, ℕ, ◌%◌, ◌*◌, ◌++◌, ◌+◌, ◌-◌, ◌/◌, ◌<◌, ◌^◌, ◌∷◌, ◌≡◌, ◌≤◌, option_map}
+use Rattle.std.specs.Prelude.{IfSome, List, Option, Some, [], drop, flat_map, length, map, max, refl, slice_get, suc, zero, ℕ, ◌%◌, ◌*◌, ◌++◌, ◌+◌, ◌-◌, ◌/◌, ◌<◌, ◌^◌, ◌∷◌, ◌≡◌, ◌≤◌, option_map}
 use Rattle.mc_boot.specs.Boot.{IsInside}
 use Rattle.mc_boot.specs.Plan.{brought_in, copy_of, entry_of, moved_up, piece, steps, taken_out, transfers, write}
 use Rattle.mc_boot.specs.declared.transfer.Transfer.{Transfer}
@@ -13,9 +12,7 @@ use Rattle.mc_flash.specs.Geometry.{Geometry, IsLayout, greatest_sectors, in_pie
 use Rattle.mc_flash.specs.declared.flash.Grain.{Grain}
 use Rattle.mc_flash.specs.declared.op.Op.{Op}
 use Rattle.mc_flash.specs.declared.op.Slot.{Slot}
-use Rattle.mc_flash.specs.declared.op.Slot.TheVariants.{Primary, Secondary}
-use Rattle.mc_flash.specs.facts.Layouts.{chunks_cover, small_unit, trailer_covered, whole_add, whole_sector, whole_times}
-use Rattle.mc_flash.specs.facts.Pieces.{pieces_can}
+use Rattle.mc_flash.specs.facts.Layouts.{chunks_cover, trailer_covered, whole_add, whole_sector, whole_times}
 use Rattle.mc_trailer.specs.Trailer.{place}
 use Rattle.mc_trailer.specs.declared.places.Field.{Field}
 use Rattle.std.proofs.lemmas.Option.{slice_get_within, get_or_from_slice_get, slice_get-get_or, slice_get-map}
@@ -50,10 +47,7 @@ get_counted n k h = get_number 0 n k h ∙ ap (λ (i : ℕ). Some i) (zero-add k
 pub get_piece : {A B : Type 0} (f : A → List B) (w : ℕ) → ((x : A) → length (f x) ≡ w) → (xs : List A) (k i j : ℕ) (x : A) → slice_get xs i ≡ Some x → j < w → k ≡ i * w + j
     → slice_get (flat_map f xs) k ≡ slice_get (f x) j
 get_piece f w even [] k i j x h b e = cc
-get_piece f w even (y ∷ xs) k zero j x h b e =
-    let same : y ≡ x = cc in
-    let is : k ≡ j = omega (arith, e) in
-    ap (slice_get (f y ++ flat_map f xs)) is ∙ get_within (f y) (flat_map f xs) j (omega (arith, even y)) ∙ ap (λ z. slice_get (f z) j) same
+get_piece f w even (y ∷ xs) k zero j x h b e = grind (arith, get_within)
 get_piece f w even (y ∷ xs) k (suc i) j x h b e =
     get_beyond (f y) (flat_map f xs) k (i * w + j) (omega (arith, e, even y)) ∙ get_piece f w even xs (i * w + j) i j x h b refl
 
@@ -82,78 +76,32 @@ can_chunk g slot sector c ok there below =
       some = ok.some_chunk;
     }
 
--- in one slot a chunk goes one sector up
-pub chunks_apart : (g : Geometry) (low high c : ℕ) → IsLayout g → low + 1 ≡ high → low * g.sector + c * g.chunk + g.chunk ≤ high * g.sector + c * g.chunk
-chunks_apart g low high c ok next =
-    let up : high * g.sector ≡ (low + 1) * g.sector = ap (λ n. n * g.sector) (sym next) in
-    let cover = chunks_cover g ok in
-    let some : 1 * g.chunk ≤ g.sector / g.chunk * g.chunk = mul-le-mul_right g.chunk (one_chunk (g.sector / g.chunk) cover) in
-    omega (arith, up, some, cover)
-  where
-    one_chunk : (q : ℕ) → q * g.chunk ≡ g.sector → 1 ≤ q
-    one_chunk zero e = let big = ok.least_sector in let none : zero * g.chunk ≡ 0 = zero-mul g.chunk in omega (arith, e, none, big)
-    one_chunk (suc q) e = omega arith
-
 pub slot_small : (g : Geometry) (slot : Slot) → IsLayout g → size_of g slot ≤ 2 ^ 24
-slot_small g Primary ok = ok.size
-slot_small g Secondary ok =
-    let fewer : g.secondary ≤ g.primary = elim ok.counts [ inl same ↦ omega (arith, same) | inr more ↦ omega (arith, more) ] in
-    let no_more : g.secondary * g.sector ≤ g.primary * g.sector = mul-le-mul_right g.sector fewer in
-    let small = ok.size in
-    omega (arith, no_more, small)
+slot_small g it ok = grind (arith, mul-le-mul_right)
 
 -- both ends of a copied chunk
 pub can_copy : (g : Geometry) (t : Transfer) (c : ℕ) → IsLayout g → IsInside g t → c < g.sector / g.chunk → CanTry g (copy_of g t c)
-can_copy g t c ok inside below = (
-  can_chunk g t.from t.from_sector c ok inside.from below,
-  can_chunk g t.to t.to_sector c ok inside.to below,
-  λ same. inl (chunks_apart g t.from_sector t.to_sector c ok (inside.apart same)),
-)
+can_copy g t c ok inside below = grind (arith, can_chunk)
 
 -- What the grain changes: the writes of the larger fields, and the layout that a course has.
 
 pub greatest_pieces : (c : Grain) (g : Geometry) → greatest_sectors (in_pieces c g) ≡ greatest_sectors g
-greatest_pieces grains.Call g = refl
-greatest_pieces grains.Unit g = refl
+greatest_pieces it g = grind arith
 
 pub get_unit : (g : Geometry) (slot : Slot) (f : Field) (new : List ℕ) (k : ℕ) → k < length new / g.unit → slice_get (write grains.Unit g slot f new) k ≡ Some (piece g slot (place g slot f) new k)
 get_unit g slot f new k h = get_mapped (piece g slot (place g slot f) new) 0 (length new / g.unit) k h ∙ ap (λ i. Some (piece g slot (place g slot f) new i)) (zero-add k)
 
 -- a unit lies in the bytes
 pub unit_within : (n u k : ℕ) → k < n / u → k * u + u ≤ n
-unit_within n u k h =
-    let row : (k + 1) * u ≤ n / u * u = mul-le-mul_right u (omega (arith, h)) in
-    let parts = mod-add-div' n u in
-    omega (arith, row, parts)
-
--- the offset of unit k of bytes that are written at an offset of a slot
-pub unit_range : (g : Geometry) (slot : Slot) (at before n k len : ℕ) → IsLayout g → at + before ≡ size_of g slot → n ≤ before → at % g.unit ≡ 0 → k * g.unit + g.unit ≤ n → len ≡ g.unit
-    → IsRange g slot (at + k * g.unit) len
-unit_range g slot at before n k len ok ends fits start within is =
-    let some = (small_unit g ok).0 in
-    record {
-      inside = omega (arith, ends, fits, within, is);
-      start = add-mul-mod_self_right at k g.unit ∙ start;
-      units = rw is (mod_self g.unit);
-      some = omega (arith, some, is);
-    }
-
-pub length-unit : (new : List ℕ) (at u : ℕ) → at + u ≤ length new → length (take (at + u - at) (drop at new)) ≡ u
-length-unit new at u within = omega (arith, length-take (at + u - at) (drop at new), length-drop at new, within)
+unit_within n u k h = grind arith
 
 -- the size and the magic are of whole units
 pub whole_units : (g : Geometry) → IsLayout g → (max g.unit 4 % g.unit ≡ 0) × (16 % g.unit ≡ 0)
-whole_units g ok = elim ok.unit [
-  | inl one ↦ rw one (refl, refl)
-  | inr (inl two) ↦ rw two (refl, refl)
-  | inr (inr (inl four)) ↦ rw four (refl, refl)
-  | inr (inr (inr eight)) ↦ rw eight (refl, refl)
-]
+whole_units g ok = grind arith
 
 -- what a course of a layout in pieces may try, its flash lets it try
 pub can_of : (c : Grain) (g l : Geometry) (o : Option Op) → l ≡ in_pieces c g → IfSome o (λ op. CanTry l op) → IfSome o (λ op. CanTry g op)
-can_of c g l None e h = h
-can_of c g l (Some op) e h = let E : Geometry → Type 0 = λ x. CanTry x op in pieces_can c g op (subst E e h)
+can_of c g l it e h = grind arith
 
 -- The sections of a course by their number.
 

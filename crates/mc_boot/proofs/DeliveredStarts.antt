@@ -1,8 +1,8 @@
 -- The starts of two images are flashes that a device can be delivered with.
 use Rattle.std.specs.Prelude.{◌≡◌, ℕ, zero, suc, ◌-◌, ◌≤◌, nat_lt, true, List, [], ◌∷◌, ◌++◌, length, replicate, take, slice_index, refl}
 use Rattle.std.specs.List.{list_all}
-use Rattle.std.proofs.Common.{arith, sym, ap, ◌∙◌, inl, inr}
-use Rattle.std.proofs.lemmas.Bool.{cases_lt, ltb-true}
+use Rattle.std.proofs.Common.{arith, sym, ap, ◌∙◌}
+use Rattle.std.proofs.lemmas.Bool.{ltb-true}
 use Rattle.std.proofs.lemmas.List.{get_or-append_right, get_or_append_left, get_or_past}
 use Rattle.mc_boot.proofs.Images.{ImageLaws}
 use Rattle.mc_boot.proofs.Starts.{Holding, image_short, length-filled, primary_image, perm_holds, placed_holds, placed_unasked, test_holds}
@@ -33,13 +33,7 @@ small_each (x ∷ xs) all zero = ltb-true x 256 (and_parts (nat_lt x 256) (list_
 small_each (x ∷ xs) all (suc i) = small_each xs (and_parts (nat_lt x 256) (list_all (λ b. nat_lt b 256) xs) all).1 i
 
 append_bytes : (xs ys : List ℕ) → IsBytes xs → IsBytes ys → IsBytes (xs ++ ys)
-append_bytes xs ys one two i = elim (cases_lt i (length xs)) [
-  | inl low ↦ let same : slice_index (xs ++ ys) i ≡ slice_index xs i = get_or_append_left xs ys 0 i low in let small = one i in omega (arith, same, small)
-  | inr high ↦
-      let same : slice_index (xs ++ ys) i ≡ slice_index ys (i - length xs) = get_or-append_right xs ys (length xs) i 0 refl high in
-      let small = two (i - length xs) in
-      omega (arith, same, small)
-]
+append_bytes xs ys one two i = grind (arith, get_or_append_left, get_or-append_right)
 
 take_bytes : (n : ℕ) (xs : List ℕ) → IsBytes xs → IsBytes (take n xs)
 take_bytes zero xs bytes i = let none : slice_index [] i ≡ 0 = get_or_past [] i 0 (omega arith) in omega (arith, none)
@@ -58,14 +52,7 @@ module _ (laws : ImageLaws) (g : Geometry) (a b : List ℕ) (ok : IsLayout g) (a
   from_image : (s : Content) → Holding g a b s → IsBytes s.primary → IsBytes s.secondary → (trailer_of g s Primary).magic ≡ magics.Unset → IsDelivered g s
   from_image s h primary secondary absent =
       let same = primary_image g a b s laws ok at_a h in
-      record {
-        sized = h.sized;
-        primary = primary;
-        secondary = secondary;
-        valid = same.valid;
-        fitting = ap (fits g) same.size ∙ at_a.fitting;
-        rest = no_magic_rests (trailer_of g s Primary) absent;
-      }
+      grind (arith, no_magic_rests, absent)
 
   a_bytes : IsBytes (filled g Primary (image_bytes a))
   a_bytes = filled_bytes g Primary (image_bytes a) (take_bytes (image_size a) a at_a.bytes)

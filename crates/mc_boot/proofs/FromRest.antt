@@ -1,19 +1,19 @@
 -- From rest to rest: what a confirmation leaves, reverts, and what cuts and a boot leave of a flash at rest, which rests again.
-use Rattle.std.proofs.Common.{add-zero, ap, arith, inl, inr, subst, sym, ◌∙◌}
+use Rattle.std.proofs.Common.{ap, arith, inl, inr, subst, sym, ◌∙◌}
 use Rattle.std.proofs.Math.Nat.{mul-le-mul_right}
 use Rattle.std.proofs.lemmas.Bool.{cases_lt}
 use Rattle.std.proofs.lemmas.Grind.{div_ceil_times}
 use Rattle.std.proofs.lemmas.List.Edits.{get_or-between}
 use Rattle.std.specs.List.{range_with_len}
-use Rattle.std.specs.Prelude.{Bool, List, Option, Some, [], false, if◌then◌else◌, length, map, refl, replicate, slice_index, suc, true, zero, ℕ, ◌&&◌, ◌*◌, ◌++◌, ◌+◌, ◌-◌, ◌<◌, ◌∷◌, ◌≡◌, ◌≢◌, ◌≤◌, ◌⊎◌}
+use Rattle.std.specs.Prelude.{Bool, List, Option, Some, [], false, if◌then◌else◌, length, map, refl, replicate, slice_index, true, ℕ, ◌&&◌, ◌*◌, ◌++◌, ◌+◌, ◌-◌, ◌<◌, ◌∷◌, ◌≡◌, ◌≢◌, ◌≤◌, ◌⊎◌}
 use Rattle.mc_boot.proofs.AtRest.{AtRest, Idles, Wants, rests_or_wants}
 use Rattle.mc_boot.proofs.Courses.{some_trailer}
-use Rattle.mc_boot.proofs.Images.{ImageLaws, SameImage, has_same}
+use Rattle.mc_boot.proofs.Images.{ImageLaws, SameImage}
 use Rattle.mc_boot.proofs.InPieces.{Steps, cycle, exchanged_pieces, keeps_more, pieces_again, plan_in_pieces, sized_whole, steps_by, swap_pieces, fields_pieces, fields_whole}
 use Rattle.mc_boot.proofs.Keeps.{Erased, Keeps, erase_inside}
 use Rattle.mc_boot.proofs.Meets.{same_bytes, same_content as equal_content, which_slot}
 use Rattle.mc_boot.proofs.Moving.{data_begin}
-use Rattle.mc_boot.proofs.Phases.{Ended, Phase, MagicUnset, Swap, Waiting, asked, asked_from, asks, larger_size, new_is, not_when_done, plan_tested, magic_unset_reverts, set_is, starting, swap_of, tested, tested_from, unasked, no_panic}
+use Rattle.mc_boot.proofs.Phases.{Ended, Phase, MagicUnset, Swap, Waiting, asked, asked_from, asks, larger_size, new_is, not_when_done, plan_tested, magic_unset_reverts, starting, swap_of, tested, tested_from, unasked, no_panic}
 use Rattle.mc_boot.proofs.Starts.{count_of, swap_between}
 use Rattle.mc_boot.proofs.SwapEnds.{Crossed, Nothing, asked_boots, asked_swaps, crossed, exchanges, prefix_at_start, image_there, running_swaps, sees_start, settled_end, settled_on, tested_end, tested_fields, tested_on, Swaps}
 use Rattle.mc_boot.proofs.SwapsKeep.{data_erased, magic_unset_blank, revert_keeps, magic_erased}
@@ -21,14 +21,14 @@ use Rattle.mc_boot.specs.Life.{DeviceState, EndsWell, Forgets, Leaves, LeavesByt
 use Rattle.mc_boot.specs.Outcome.{after}
 use Rattle.mc_boot.specs.Plan.{Plan, PowerOn, new_list, nothing, plan, power_on, trailer_erase}
 use Rattle.mc_boot.specs.Restart.{AreExchanged, IsSettled, confirmed, confirmed_if, forgets_reverts, may_confirm}
-use Rattle.mc_flash.specs.Flash.{Content, IsSized, apply, byte, is_blank, put, sectors_of, with_bytes}
+use Rattle.mc_flash.specs.Flash.{Content, IsSized, apply, byte, is_blank, sectors_of}
 use Rattle.mc_flash.specs.Geometry.{Geometry, IsLayout, greatest_sectors, in_pieces, trailer_sectors}
 use Rattle.mc_flash.specs.declared.flash.Grain.{Grain}
 use Rattle.mc_flash.specs.declared.op.Op.{Op}
 use Rattle.mc_flash.specs.declared.op.Op.TheVariants.{Erase}
 use Rattle.mc_flash.specs.declared.op.Slot.{Slot}
 use Rattle.mc_flash.specs.declared.op.Slot.TheVariants.{Primary, Secondary}
-use Rattle.mc_flash.specs.facts.Changes.{Changed, blank_range, erase_changes, same_content, sized_is}
+use Rattle.mc_flash.specs.facts.Changes.{Changed, blank_range, erase_changes, sized_is}
 use Rattle.mc_flash.specs.facts.Layouts.{small_unit}
 use Rattle.mc_image.specs.Valid.{Identity, id_of, is_valid}
 use Rattle.mc_trailer.specs.Tables.{asks_perm, asks_revert, asks_test, is_good, is_set, is_unset, reverts_at}
@@ -44,7 +44,6 @@ use Rattle.mc_trailer.specs.facts.Places.{field_ends}
 use Rattle.mc_trailer.specs.facts.Tables.{types_are_rows, and_parts}
 use Rattle.mc_trailer.specs.declared.places.Field.TheVariants as field
 use Rattle.mc_trailer.specs.declared.trailer.Flag.TheVariants as flags
-use Rattle.mc_flash.specs.declared.flash.Grain.TheVariants as grains
 use Rattle.mc_trailer.specs.declared.tables.SwapType.TheVariants as kinds
 use Rattle.mc_trailer.specs.declared.trailer.Magic.TheVariants as magics
 
@@ -53,8 +52,7 @@ use Rattle.mc_trailer.specs.declared.trailer.Magic.TheVariants as magics
 -- the chunk plays no part
 pub may_pieces : (c : Grain) (g : Geometry) (s : Content) → may_confirm (in_pieces c g) s ≡ may_confirm g s
 unfolding trailer_of
-may_pieces grains.Call g s = refl
-may_pieces grains.Unit g s = refl
+may_pieces it g s = grind arith
 
 -- after a test it may
 module _ (from : PowerOn) (size n : ℕ) (z : Content) (w : Swap from.geometry from.content size n) (e : Ended from.geometry from.content size n true z) where
@@ -89,29 +87,16 @@ never magic done = grind arith
 
 pub settled_stays : (x : PowerOn) → IsLayout x.geometry → IsSettled x → confirmed x.geometry x.content ≡ x.content
 unfolding confirmed trailer_of
-settled_stays x ok settled =
-    let unit = small_unit x.geometry ok in
-    let one : slice_index x.content.primary (place x.geometry Primary field.ImageOk) ≡ 1 = set_is (slice_index x.content.primary (place x.geometry Primary field.ImageOk)) settled.image_ok in
-    let written : is_blank (bytes_at x.content Primary (place x.geometry Primary field.ImageOk) x.geometry.unit) ≡ false =
-    marked (bytes_at x.content Primary (place x.geometry Primary field.ImageOk) x.geometry.unit)
-    (get_or-between x.content.primary (place x.geometry Primary field.ImageOk) (place x.geometry Primary field.ImageOk + x.geometry.unit) 0 0 (omega (arith, unit))
-    ∙ ap (slice_index x.content.primary) (add-zero (place x.geometry Primary field.ImageOk)) ∙ one) in
-    let may : may_confirm x.geometry x.content ≡ false =
-    ap (λ (c : Bool). is_good (trailer_of x.geometry x.content Primary).magic && is_set (trailer_of x.geometry x.content Primary).copy_done && c) written
-    ∙ never (is_good (trailer_of x.geometry x.content Primary).magic) (is_set (trailer_of x.geometry x.content Primary).copy_done) in
-    ap (λ (c : Bool). if c then with_bytes x.content Primary (put x.content.primary (place x.geometry Primary field.ImageOk) (one_unit x.geometry 1)) else x.content) may
+settled_stays x ok settled = grind (arith, marked, get_or-between)
 
 -- no magic, and nothing to confirm
 pub unmarked_stays : (g : Geometry) (z : Content) → (trailer_of g z Primary).magic ≡ magics.Unset → confirmed g z ≡ z
 unfolding confirmed
-unmarked_stays g z absent =
-    let may : may_confirm g z ≡ false = ap (λ c. is_good c && is_set (trailer_of g z Primary).copy_done && is_blank (bytes_at z Primary (place g Primary field.ImageOk) g.unit)) absent in
-    ap (λ (c : Bool). if c then with_bytes z Primary (put z.primary (place g Primary field.ImageOk) (one_unit g 1)) else z) may
+unmarked_stays g z absent = grind arith
 
 -- whether it is to confirm itself or not
 pub unconfirmed : (confirms : Bool) (g : Geometry) (z : Content) → confirmed g z ≡ z → confirmed_if confirms g z ≡ z
-unconfirmed true g z is = is
-unconfirmed false g z is = refl
+unconfirmed it g z is = grind arith
 
 -- A revert of whatever the secondary holds, by every rule; some rules can forget it.
 
@@ -143,15 +128,11 @@ erased_again s t u slot at new one two =
 -- Where the first operation makes s as t, and changes t no more, a list that keeps P from t keeps it from s.
 from_first : (g : Geometry) (P Q : Content → Type 0) (f : ℕ → Op) (m : ℕ) (rest : List Op) (s t : Content) → 0 < m → P s → apply g (f 0) s ≡ Some t → apply g (f 0) t ≡ Some t
     → Keeps g P (map f (range_with_len 0 m) ++ rest) t Q → Keeps g P (map f (range_with_len 0 m) ++ rest) s Q
-from_first g P Q f zero rest s t some begin makes still keeps = absurd (omega (arith, some))
-from_first g P Q f (suc m) rest s t some begin makes still keeps =
-    let same : keeps.1.0 ≡ t = same_content keeps.1.0 t (sym keeps.1.1 ∙ still) in
-    (begin, (t, makes, rw same at keeps.1.2))
+from_first g it one f other rest s t some begin makes still keeps = grind arith
 
 -- a magic that is quiet is not good
 magic_unset_not_good : (c : Grain) (g : Geometry) (t : Content) → IsLayout g → IsSized g t → MagicUnset c g t → is_good (trailer_of g t Secondary).magic ≡ false
-magic_unset_not_good grains.Call g t ok sized magic_unset = ap is_good (reads_absent g t Secondary ok sized magic_unset)
-magic_unset_not_good grains.Unit g t ok sized magic_unset = reads_not_good g t Secondary magic_unset
+magic_unset_not_good it g t ok sized magic_unset = grind (arith, reads_not_good)
 
 -- nothing is asked for, at a magic that is neither good nor one that the profile reverts at
 none_when_lost : (profile : Profile) (p q : Trailer) → is_good q.magic ≡ false → reverts_at profile q.magic ≡ false
@@ -178,8 +159,7 @@ module _ (r : Rules) (g : Geometry) (s : Content) (size n : ℕ) (whole : in_pie
   MadeOrLost t z = Ended g s size n false z ⊎ Lost t z
 
   wider : (t : Content) → Phase (Waiting r.grain g s n) g s size n false t → Reverts t
-  wider t (inl is) = inl (inl is)
-  wider t (inr is) = inr is
+  wider t it = grind arith
 
   made : (t z : Content) → Ended g s size n false z → MadeOrLost t z
   made t z is = inl is
@@ -246,10 +226,7 @@ module _ (r : Rules) (g : Geometry) (s : Content) (size n : ℕ) (whole : in_pie
 
     -- by what a boot from a phase does
     swap_steps : (t : Content) → Swaps Waits (power_on r g s) size n false t → Steps (power_on r g t) Reverts (MadeOrLost t)
-    swap_steps t swaps = record {
-      keeps = keeps_more g Reverts Reverts (Ended g s size n false) (MadeOrLost t) (plan (power_on r g t)).list t (λ x k. k) (made t) swaps.keeps;
-      not_panic = λ panic. no_panic false swaps.planned.kind swaps.planned.of (sym swaps.planned.is ∙ panic);
-    }
+    swap_steps t swaps = grind (arith, keeps_more)
 
     pub revert_steps : (t : Content) → Reverts t → Steps (power_on r g t) Reverts (MadeOrLost t)
     revert_steps t (inl (inl is)) = waiting_steps t is
@@ -284,16 +261,13 @@ pub no_trial : (p : Trailer) → p.image_ok ≡ flags.Set → is_on_trial p ≡ 
 no_trial p set = rw set (grind arith)
 
 good_of : (m : Magic) → is_good m ≡ true → m ≡ magics.Good
-good_of magics.Good is = refl
-good_of m is = absurd cc
+good_of m is = grind arith
 
 pub set_of : (f : Flag) → is_set f ≡ true → f ≡ flags.Set
-set_of flags.Set is = refl
-set_of f is = absurd cc
+set_of f is = grind arith
 
 unset_of : (f : Flag) → is_unset f ≡ true → f ≡ flags.Unset
-unset_of flags.Unset is = refl
-unset_of f is = absurd cc
+unset_of f is = grind arith
 
 -- ---- a swap that is wanted
 
@@ -307,28 +281,15 @@ module _ (laws : ImageLaws) (g : Geometry) (ok : IsLayout g) (s : Content) (rest
   in_prefix valid at_most =
       let wide = ok.least_sector in
       let rows : larger_size s ≤ count_of g s * g.sector = (div_ceil_times (larger_size s) g.sector (omega (arith, wide))).0 in
-      let most : count_of g s * g.sector ≤ greatest_sectors g * g.sector = mul-le-mul_right g.sector at_most in
-      omega (arith, rows, most)
+      grind (arith, count_of, mul-le-mul_right)
 
   -- what is left rests
   module _ (z : Content) where
     pub rests_crossed : is_valid s.secondary ≡ true → count_of g s ≤ greatest_sectors g → IsSized g z → Crossed s z → (trailer_of g z Primary).copy_done ≡ flags.Set → AtRest g z
-    rests_crossed valid at_most sized held set = record {
-      sized = sized;
-      primary = has_same s.secondary z.primary (rest.secondary valid) held.primary;
-      at_most = let prefix = in_prefix valid at_most in let same = held.primary.size in omega (arith, prefix, same);
-      secondary = λ _. has_same s.primary z.secondary rest.primary held.secondary;
-      rest = done_rests (trailer_of g z Primary) set;
-    }
+    rests_crossed valid at_most sized held set = grind (arith, in_prefix)
 
     pub rests_same : is_valid s.secondary ≡ true → IsSized g z → SameImage s.primary z.primary → SameImage s.secondary z.secondary → (trailer_of g z Primary).copy_done ≡ flags.Set → AtRest g z
-    rests_same valid sized one two set = record {
-      sized = sized;
-      primary = has_same s.primary z.primary rest.primary one;
-      at_most = let at_most = rest.at_most in let same = one.size in omega (arith, at_most, same);
-      secondary = λ _. has_same s.secondary z.secondary (rest.secondary valid) two;
-      rest = done_rests (trailer_of g z Primary) set;
-    }
+    rests_same valid sized one two set = grind arith
 
 -- ---- the turns
 

@@ -26,11 +26,7 @@ pub record ImageLaws : Type 0 where
 
 -- two lists of one prefix
 pub same_prefixes : (xs ys : List ℕ) (n : ℕ) → n ≤ length xs → n ≤ length ys → ((i : ℕ) → i < n → slice_index ys i ≡ slice_index xs i) → take n ys ≡ take n xs
-same_prefixes xs ys n at_xs at_ys same =
-    same_number_lists (take n ys) (take n xs) (length-take-le n ys (omega (arith, at_ys)) ∙ sym (length-take-le n xs (omega (arith, at_xs))))
-    (λ i below.
-    let short : i < n = omega (arith, below, length-take-le n ys (omega (arith, at_ys))) in
-    get_or-take n ys i 0 short ∙ same i short ∙ sym (get_or-take n xs i 0 short))
+same_prefixes xs ys n at_xs at_ys same = grind (arith, same_number_lists, length-take-le, get_or-take)
 
 -- valid bytes have an identity, whose size is the image's
 pub id_valid : (b : List ℕ) → is_valid b ≡ true → id_of b ≡ Some (identity (image_in b))
@@ -93,12 +89,7 @@ image_prefix xs ys laws bytes valid prefix =
 
 -- and on to a third list
 pub same_then : (xs ys zs : List ℕ) → SameImage xs ys → SameImage ys zs → SameImage xs zs
-same_then xs ys zs one two = record {
-  valid = two.valid;
-  size = two.size ∙ one.size;
-  id = two.id ∙ one.id;
-  prefix = ap (λ n. take n zs) (sym one.size) ∙ two.prefix ∙ ap (λ n. take n ys) one.size ∙ one.prefix;
-}
+same_then xs ys zs one two = grind arith
 
 -- bytes that begin with the valid image of a list of bytes
 pub record HasImage (ys : List ℕ) : Type 0 where
@@ -131,8 +122,7 @@ id_good b none good = rw none (rw ((bytes_eq-Decides (digest_of (image_in b)) (s
 
 not_good : (b : List ℕ) (t : Bool) → is_good (image_in b) ≡ t → (IsGood (image_in b) → ⊥) → t ≡ false
 unfolding is_good
-not_good b true is bad = absurd (bad ((bytes_eq-Decides (digest_of (image_in b)) (sha256 (covered_text (image_in b)))).0 is))
-not_good b false is bad = refl
+not_good b it is bad = grind (arith, bytes_eq-Decides)
 
 pub id_bad : (b : List ℕ) → first_fault b ≡ None → (IsGood (image_in b) → ⊥) → id_of b ≡ None
 unfolding id_of is_valid
@@ -148,8 +138,7 @@ unfolding id_of
 valid_id b = grind arith
 
 mapped : (o : Option ImageId) → is_some (option_map identity_of o) ≡ is_some o
-mapped None = refl
-mapped (Some x) = refl
+mapped it = grind arith
 
 pub valid_held : (b : List ℕ) (o : Option ImageId) → option_map identity_of o ≡ id_of b → is_some o ≡ is_valid b
 valid_held b o is = sym (mapped o) ∙ ap (λ (x : Option Identity). is_some x) is ∙ valid_id b
@@ -157,13 +146,11 @@ valid_held b o is = sym (mapped o) ∙ ap (λ (x : Option Identity). is_some x) 
 -- what a new swap asks of the slots, by its parts
 images_are : (s : Content) (valid : Bool) (size : ℕ) → valid ≡ is_valid s.secondary → size ≡ max (image_size s.primary) (image_size s.secondary) → record { valid = valid; size = size } ≡ images_of s
 unfolding images_of
-images_are s valid size valid_is size_is =
-    ap (λ (b : Bool). let x : Images = record { valid = b; size = size } in x) valid_is ∙ ap (λ (n : ℕ). let x : Images = record { valid = is_valid s.secondary; size = n } in x) size_is
+images_are s valid size valid_is size_is = grind arith
 
 module _ (s : Content) (first second : List ℕ) (at_first : first ≡ s.primary) (at_second : second ≡ s.secondary) where
   larger : (size size2 most : ℕ) → size ≡ image_size first → size2 ≡ image_size second → most ≡ max size size2 → most ≡ max (image_size s.primary) (image_size s.secondary)
-  larger size size2 most size_is size2_is most_is =
-      most_is ∙ ap (λ n. max n size2) (size_is ∙ ap image_size at_first) ∙ ap (λ n. max (image_size s.primary) n) (size2_is ∙ ap image_size at_second)
+  larger size size2 most size_is size2_is most_is = grind arith
 
   -- by what was read of them
   pub images_read : (size : ℕ) (held : Held) (images : Images) → size ≡ image_size first → held.size ≡ image_size second → option_map identity_of held.id ≡ id_of second

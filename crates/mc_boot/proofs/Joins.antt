@@ -4,36 +4,25 @@ use Rattle.std.proofs.Math.Seq.{take-add, take-length}
 use Rattle.std.proofs.lemmas.Bool.Decides.{nat_tests}
 use Rattle.std.proofs.lemmas.List.{length-drop, length-take, length-take-le}
 use Rattle.std.specs.Bool.{beq}
-use Rattle.std.specs.Int.{div_ceil}
 use Rattle.std.specs.List.{AllByRecursion}
-use Rattle.std.specs.Prelude.{Bool, List, None, Option, Some, [], drop, false, if◌then◌else◌, length, map, nat_le, nat_lt, not, option_and_then, option_map, refl, suc, take, true, ℕ, ◌++◌, ◌+◌, ◌-◌, ◌<◌, ◌==◌, ◌||◌, ◌∷◌, ◌≡◌, ◌≤◌}
+use Rattle.std.specs.Prelude.{Bool, List, None, Option, Some, [], drop, false, if◌then◌else◌, length, map, nat_le, nat_lt, option_and_then, option_map, refl, suc, take, true, ℕ, ◌++◌, ◌+◌, ◌-◌, ◌<◌, ◌==◌, ◌∷◌, ◌≡◌, ◌≤◌}
 use Rattle.mc_boot.proofs.Meets.{AreThere, Fit, Sector, WritesIn, blank, erase_in, erase_of, fit_longer, fit_there, op_blanked, op_longer}
-use Rattle.mc_boot.specs.Outcome.{Report, applied, at, first_then, happening, is_faulted, is_panic, left_by, ops_of, outcome_of, report, result_of}
-use Rattle.mc_boot.specs.Plan.{Plan, PowerOn, again, first_left, images_of, new_list, new_plan, new_swap, nothing, plan, plan_with, power_on, resumed_from, resumed_plan, resumed_swap}
+use Rattle.mc_boot.specs.Outcome.{Report, applied, at, first_then, happening, is_faulted, is_panic, left_by, ops_of, outcome_of, report}
+use Rattle.mc_boot.specs.Plan.{Plan, PowerOn, again, new_plan, plan, plan_with}
 use Rattle.mc_boot.specs.declared.image.Images.{Images}
-use Rattle.mc_boot.specs.declared.outcome.BootResult.{BootResult}
 use Rattle.mc_boot.specs.facts.Run.{happening_prefix, left_defined}
 use Rattle.mc_flash.specs.Flash.{Content, IsSized, apply, bytes_of}
-use Rattle.mc_flash.specs.Geometry.{Geometry, greatest_sectors, in_pieces}
+use Rattle.mc_flash.specs.Geometry.{Geometry}
 use Rattle.mc_flash.specs.declared.flash.Grain.{Grain}
 use Rattle.mc_flash.specs.declared.op.Op.{Op}
 use Rattle.mc_flash.specs.declared.op.Slot.{Slot}
-use Rattle.mc_flash.specs.declared.op.Slot.TheVariants.{Primary}
-use Rattle.mc_image.specs.Valid.{id_of, is_valid}
-use Rattle.mc_trailer.specs.Tables.{is_resumed, table_of}
-use Rattle.mc_trailer.specs.Trailer.{highest_entry, trailer_of}
 use Rattle.mc_trailer.specs.declared.tables.Rules.{Rules}
 use Rattle.mc_trailer.specs.declared.tables.SwapType.{SwapType}
-use Rattle.mc_trailer.specs.declared.trailer.Flag.{Flag}
-use Rattle.mc_trailer.specs.declared.trailer.Trailer.{Trailer}
-use Rattle.mc_trailer.specs.declared.tables.SwapType.TheVariants as kinds
 
 -- What tests show where they hold.
 
 pub are_same : (a b : Bool) → beq a b ≡ true → a ≡ b
-are_same true true is = refl
-are_same false false is = refl
-are_same a b is = absurd cc
+are_same a b is = grind arith
 
 pub are_equal : (m n : ℕ) → (m == n) ≡ true → m ≡ n
 are_equal m n is = grind (arith, nat_tests)
@@ -46,8 +35,7 @@ is_less m n high is = grind (arith, nat_tests)
 
 -- Which number a test gives, where it gives one.
 pub chosen : (t : Bool) (m n : ℕ) → (if t then Some m else None) ≡ Some n → (t ≡ true) × (m ≡ n)
-chosen true m n is = (refl, cc)
-chosen false m n is = absurd cc
+chosen it m n is = grind arith
 
 -- The outcome of a boot after a cut, where it follows from that of the boot that was cut.
 
@@ -85,8 +73,7 @@ pub record IsJoined (x : PowerOn) (u : Content) (j : ℕ) : Type 0 where
 
 first_prefix : (g : Geometry) (op : Op) (ops : List Op) (c : ℕ) → ((t : Content) → c ≤ length (happening g ops t) → take c (happening g ops t) ≡ take c ops)
     → (o : Option Content) → suc c ≤ length (first_then op (λ t. happening g ops t) o) → take (suc c) (first_then op (λ t. happening g ops t) o) ≡ op ∷ take c ops
-first_prefix g op ops c beyond None below = absurd (omega (arith, below))
-first_prefix g op ops c beyond (Some t) below = ap (λ (xs : List Op). op ∷ xs) (beyond t (omega (arith, below)))
+first_prefix g op ops c beyond it below = grind arith
 
 -- What happens of a list is a prefix of it.
 happens_prefix : (g : Geometry) (ops : List Op) (c : ℕ) (s : Content) → c ≤ length (happening g ops s) → take c (happening g ops s) ≡ take c ops
@@ -102,8 +89,7 @@ happens_few g ops s =
 -- A list that can be applied, in two parts.
 split_on : (g : Geometry) (xs ys : List Op) (t : Content) → ((x : Content) → applied g (xs ++ ys) x ≡ Some t → (v : Content) × (applied g xs x ≡ Some v) × (applied g ys v ≡ Some t))
     → (o : Option Content) → option_and_then (λ x. applied g (xs ++ ys) x) o ≡ Some t → (v : Content) × (option_and_then (λ x. applied g xs x) o ≡ Some v) × (applied g ys v ≡ Some t)
-split_on g xs ys t beyond None is = absurd cc
-split_on g xs ys t beyond (Some x) is = beyond x is
+split_on g xs ys t beyond it is = grind arith
 
 applied_parts : (g : Geometry) (xs ys : List Op) (s t : Content) → applied g (xs ++ ys) s ≡ Some t → (v : Content) × (applied g xs s ≡ Some v) × (applied g ys v ≡ Some t)
 applied_parts g [] ys s t is = (s, refl, is)
@@ -111,8 +97,7 @@ applied_parts g (x ∷ xs) ys s t is = split_on g xs ys t (λ y e. applied_parts
 
 join_on : (g : Geometry) (xs ys : List Op) (v : Content) → ((x : Content) → applied g xs x ≡ Some v → applied g (xs ++ ys) x ≡ applied g ys v)
     → (o : Option Content) → option_and_then (λ x. applied g xs x) o ≡ Some v → option_and_then (λ x. applied g (xs ++ ys) x) o ≡ applied g ys v
-join_on g xs ys v beyond None is = absurd cc
-join_on g xs ys v beyond (Some x) is = beyond x is
+join_on g xs ys v beyond it is = grind arith
 
 pub applied_beyond : (g : Geometry) (xs ys : List Op) (s v : Content) → applied g xs s ≡ Some v → applied g (xs ++ ys) s ≡ applied g ys v
 applied_beyond g [] ys s v is = let same : s ≡ v = cc in ap (applied g ys) same
@@ -136,8 +121,7 @@ applied_longer g (op ∷ ops) s t is = longer_on g ops s t (λ x e. applied_long
 
 blanked_on : (g : Geometry) (es : List Sector) (ops : List Op) (s t : Content) → ((x : Content) → Fit g es x → applied g ops x ≡ Some t → blank g es t ≡ blank g es x)
     → (a : Option Content) → ((x : Content) → a ≡ Some x → (blank g es x ≡ blank g es s) × Fit g es x) → option_and_then (λ x. applied g ops x) a ≡ Some t → blank g es t ≡ blank g es s
-blanked_on g es ops s t beyond None first is = absurd cc
-blanked_on g es ops s t beyond (Some x) first is = let now = first x refl in beyond x now.1 is ∙ now.0
+blanked_on g es ops s t beyond it first is = grind arith
 
 -- Operations that write in these sectors alone do not change what blanking gives.
 pub applied_blanked : (g : Geometry) (es : List Sector) (ops : List Op) (s t : Content) → AllByRecursion (WritesIn g es) ops → Fit g es s → applied g ops s ≡ Some t → blank g es t ≡ blank g es s
@@ -172,58 +156,12 @@ same_run g es ops v u first same = record {
 abbrev IsNoPanic : Plan → Type 0
 IsNoPanic p = 0 < length p.list → is_panic p.kind ≡ false
 
-idle_not_panic : (kind : SwapType) → IsNoPanic (nothing kind)
-idle_not_panic kind some = absurd (omega (arith, some))
-
-either_not_panic : (b : Bool) (p q : Plan) → IsNoPanic p → IsNoPanic q → IsNoPanic (if b then p else q)
-either_not_panic true p q one two = one
-either_not_panic false p q one two = two
-
-new_swap_not_panic : (c : Grain) (g : Geometry) (images : Images) (kind : SwapType) → is_panic kind ≡ false → IsNoPanic (new_swap c g images kind)
-new_swap_not_panic c g images kind not_panic =
-    let n = div_ceil images.size g.sector in
-    either_not_panic (not images.valid || nat_lt (greatest_sectors g) n) (nothing kinds.Fail) (record { kind = kind; sectors = n; list = new_list c (in_pieces c g) kind images.size n })
-    (idle_not_panic kinds.Fail) (λ _. not_panic)
-
 new_plan_not_panic : (c : Grain) (g : Geometry) (images : Images) (kind : SwapType) → IsNoPanic (new_plan c g images kind)
-new_plan_not_panic c g images kinds.Test = new_swap_not_panic c g images kinds.Test refl
-new_plan_not_panic c g images kinds.Perm = new_swap_not_panic c g images kinds.Perm refl
-new_plan_not_panic c g images kinds.Revert = new_swap_not_panic c g images kinds.Revert refl
-new_plan_not_panic c g images kind = idle_not_panic kind
-
-resumed_from_not_panic : (c : Grain) (g : Geometry) (image_ok : Flag) (highest : Option ℕ) (kind : SwapType) (n : ℕ) (first : Option ℕ) → is_panic kind ≡ false
-    → IsNoPanic (resumed_from c g image_ok highest kind n first)
-resumed_from_not_panic c g image_ok highest kind n None not_panic = idle_not_panic kinds.Panic
-resumed_from_not_panic c g image_ok highest kind n (Some first) not_panic = λ _. not_panic
-
-resumed_swap_not_panic : (c : Grain) (g : Geometry) (image_ok : Flag) (highest : Option ℕ) (kind : SwapType) (n : ℕ) → is_panic kind ≡ false → IsNoPanic (resumed_swap c g image_ok highest kind n)
-resumed_swap_not_panic c g image_ok highest kind n not_panic =
-    either_not_panic (n == 0 || nat_lt (greatest_sectors g) n) (nothing kinds.Panic) (resumed_from c g image_ok highest kind n (first_left g n highest))
-    (idle_not_panic kinds.Panic) (resumed_from_not_panic c g image_ok highest kind n (first_left g n highest) not_panic)
-
-resumed_plan_not_panic : (c : Grain) (g : Geometry) (t : Trailer) (highest : Option ℕ) → IsNoPanic (resumed_plan c g t highest)
-resumed_plan_not_panic c g t highest =
-    let n = div_ceil t.swap_size g.sector in
-    let test : Plan = resumed_swap c g t.image_ok highest kinds.Test n in
-    let perm : Plan = resumed_swap c g t.image_ok highest kinds.Perm n in
-    let revert : Plan = resumed_swap c g t.image_ok highest kinds.Revert n in
-    either_not_panic (t.swap_info == 2) test (if t.swap_info == 3 then perm else if t.swap_info == 4 then revert else nothing kinds.None)
-    (resumed_swap_not_panic c g t.image_ok highest kinds.Test n refl)
-    (either_not_panic (t.swap_info == 3) perm (if t.swap_info == 4 then revert else nothing kinds.None)
-    (resumed_swap_not_panic c g t.image_ok highest kinds.Perm n refl)
-    (either_not_panic (t.swap_info == 4) revert (nothing kinds.None)
-    (resumed_swap_not_panic c g t.image_ok highest kinds.Revert n refl)
-    (idle_not_panic kinds.None)))
+new_plan_not_panic c g images kind = grind arith
 
 pub plan_not_panic : (x : PowerOn) → 0 < length (plan x).list → is_panic (plan x).kind ≡ false
 unfolding plan plan_with
-plan_not_panic x =
-    let g = x.geometry in
-    let s = x.content in
-    let c = x.rules.grain in
-    either_not_panic (is_resumed g s) (resumed_plan c g (trailer_of g s Primary) (highest_entry g s)) (new_plan c g (images_of s) (table_of x.rules.profile g s))
-    (resumed_plan_not_panic c g (trailer_of g s Primary) (highest_entry g s))
-    (new_plan_not_panic c g (images_of s) (table_of x.rules.profile g s))
+plan_not_panic x = grind (arith, new_plan_not_panic)
 
 -- ---- the lemma
 
@@ -281,21 +219,14 @@ left_is x = ap (λ (xs : List Op). applied x.geometry xs x.content) (take-length
 same_fault : (n m a b j : ℕ) → n + j ≡ m → a + j ≡ b → nat_lt n a ≡ nat_lt m b
 same_fault n m a b j p q = grind (arith, nat_tests)
 
-not_panic_result : (k l : SwapType) (faulted boots : Bool) → is_panic k ≡ false → is_panic l ≡ false → result_of k faulted boots ≡ result_of l faulted boots
-not_panic_result k l faulted boots one two = rw (one, two) refl
-
 module _ (r : Rules) (g : Geometry) (k l : SwapType) (n m j : ℕ) (one : is_panic k ≡ false) (two : is_panic l ≡ false) (count : n + j ≡ m) where
   less_report : (faulted : Bool) (z : Content) → report r g k n faulted z ≡ less k j (report r g l m faulted z)
   unfolding report
-  less_report faulted z =
-      let here : BootResult → ℕ → Report = λ x i. record { result = x; kind = k; ops = i; primary = id_of z.primary; secondary = id_of z.secondary; next = (plan (power_on r g z)).kind } in
-      ap (λ x. here x n) (not_panic_result k l faulted (is_valid z.primary) one two)
-      ∙ ap (λ i. here (result_of l faulted (is_valid z.primary)) i) (omega (arith, count))
+  less_report faulted z = grind arith
 
   reported_less : (f h : Bool) (a b : Option Content) (z : Content) → f ≡ h → a ≡ b → b ≡ Some z
       → option_map (λ x. report r g k n f x) a ≡ option_map (less k j) (option_map (λ x. report r g l m h x) b)
-  reported_less f h a b z faults same left =
-      rw (same, left, faults) (ap (λ (o : Report). Some o) (less_report h z))
+  reported_less f h a b z faults same left = grind (arith, less_report)
 
 -- After a cut that joins, the next boot ends as the one that was cut would have.
 pub joined : (x : PowerOn) (u : Content) (c j : ℕ) (es : List Sector) → Joins x u c j es → IsJoined x u j

@@ -7,9 +7,8 @@ use Rattle.std.proofs.lemmas.List.{get_or-replicate, get_or-take, length-replica
 use Rattle.std.proofs.lemmas.List.Edits.{get_or-between, length-between}
 use Rattle.std.specs.List.{between, range_with_len}
 use Rattle.std.specs.Prelude.{Bool, List, None, Some, [], false, if◌then◌else◌, length, map, nat_lt, option_and_then, option_map, refl, replicate, slice_index, suc, take, true, zero, ℕ, ◌%◌, ◌*◌, ◌++◌, ◌+◌, ◌-◌, ◌/◌, ◌<◌, ◌∷◌, ◌≡◌, ◌≢◌, ◌≤◌}
-use Rattle.mc_boot.specs.Outcome.{after, applied, at, first_then, happening, is_faulted, left_by, ops_of, outcome_of, report, result_of}
+use Rattle.mc_boot.specs.Outcome.{after, applied, at, first_then, happening, is_faulted, left_by, ops_of, outcome_of, report}
 use Rattle.mc_boot.specs.Plan.{PowerOn, piece, plan, power_on, trailer_erase, trailer_erases, write}
-use Rattle.mc_boot.specs.declared.outcome.BootResult.{BootResult}
 use Rattle.mc_flash.specs.Flash.{Content, IsSized, apply, byte, bytes_of, sectors_of, size_of}
 use Rattle.mc_flash.specs.Geometry.{Geometry, IsLayout, trailer_sectors}
 use Rattle.mc_flash.specs.declared.flash.Grain.{Grain}
@@ -22,7 +21,6 @@ use Rattle.mc_image.specs.Valid.{is_valid}
 use Rattle.mc_trailer.specs.Trailer.{place, room}
 use Rattle.mc_trailer.specs.declared.places.Field.{Field}
 use Rattle.mc_trailer.specs.declared.tables.Rules.{Rules}
-use Rattle.mc_trailer.specs.declared.tables.SwapType.{SwapType}
 use Rattle.mc_trailer.specs.facts.Fields.{FieldIs, blank_byte, field_write}
 use Rattle.mc_trailer.specs.facts.Places.{field_beyond_data, field_ends}
 use borrow.Author.Tests.{ltb-true}
@@ -50,8 +48,7 @@ keeps_range g P K f a zero s step j = let D : ℕ → Type 0 = λ m. K m s in su
 keeps_range g P K f a (suc n) s step j =
     let now = step a s (omega arith) j in
     let rest = keeps_range g P K f (a + 1) n now.1.0 (λ i t h k. step i t (omega (arith, h)) k) now.1.2 in
-    let later : a + 1 + n ≡ a + suc n = omega arith in
-    (now.0, (now.1.0, now.1.1, rw later at rest))
+    grind (arith, at)
 
 -- nothing is refused
 pub keeps_whole : (g : Geometry) (P Q : Content → Type 0) (ops : List Op) (s : Content) → Keeps g P ops s Q → happening g ops s ≡ ops
@@ -185,13 +182,7 @@ abbrev pub Part : Content → Slot → ℕ → List ℕ → ℕ → Content → 
 Part s slot at new k t = Changed s t slot at (take k new)
 
 none_yet : (s : Content) (slot : Slot) (at : ℕ) (new : List ℕ) → Part s slot at new 0 s
-none_yet s slot at new = record {
-  inside = λ i h. absurd (omega (arith, h, length-take-le 0 new (omega arith)));
-  before = λ i _. refl;
-  beyond = λ i _. refl;
-  other = λ o i _. refl;
-  sizes = λ o. refl;
-}
+none_yet s slot at new = grind arith
 
 piece_more : (g : Geometry) (s t u : Content) (slot : Slot) (at : ℕ) (new : List ℕ) (k : ℕ) → k + g.unit ≤ length new → Part s slot at new k t → Changed t u slot (at + k) (between k (k + g.unit) new)
     → Part s slot at new (k + g.unit) u
@@ -295,13 +286,7 @@ ends r g P Q u keeps =
     let end = keeps_end g P Q (plan (power_on r g u)).list u keeps in
     (end.0, record { end = left_whole (power_on r g u) end.0 whole end.1; whole = not_faulted (power_on r g u) whole; so = end.2 })
 
--- a boot that is not faulted and does not panic boots what it left, where that is valid
-not_panic_boots : (kind : SwapType) → kind ≢ kinds.Panic → result_of kind false true ≡ results.Boot
-not_panic_boots kinds.Panic not_panic = absurd (not_panic refl)
-not_panic_boots kind not_panic = refl
-
 pub boots_so : (x : PowerOn) (z : Content) → left_by x ≡ Some z → is_faulted x ≡ false → (plan x).kind ≢ kinds.Panic → is_valid z.primary ≡ true
     → option_map (λ o. o.result) (outcome_of x) ≡ Some results.Boot
 unfolding outcome_of report
-boots_so from z end whole not_panic valid =
-    rw (end, whole, valid) (ap (λ (e : BootResult). Some e) (not_panic_boots (plan from).kind not_panic))
+boots_so from z end whole not_panic valid = grind arith

@@ -1,26 +1,24 @@
 -- The life law.
 use Rattle.std.specs.Prelude.{◌≡◌, ◌⊎◌, ℕ, ◌*◌, ◌<◌, ◌≤◌, slice_index, ◌&&◌, ◌-◌, Bool, true, false, if◌then◌else◌, List, [], ◌∷◌, ◌++◌, replicate, Option, Some, None, option_and_then, option_map, refl, length}
 use Rattle.std.specs.Int.{div_ceil}
-use Rattle.std.proofs.Common.{arith, sym, ap, subst, ◌∙◌, inl, inr}
+use Rattle.std.proofs.Common.{arith, sym, ap, subst, ◌∙◌}
 use Rattle.std.proofs.lemmas.Grind.{div_ceil_times}
 use Rattle.std.proofs.Math.Nat.{mul-le-mul_right}
 use Rattle.mc_boot.proofs.AtRest.{AtRest, next_is}
-use Rattle.mc_boot.proofs.Keeps.{place_beyond_data}
 use Rattle.mc_boot.proofs.Images.{HasImage, ImageLaws, SameImage, has_same, same_image}
 use Rattle.mc_boot.proofs.FromRest.{done_rests, no_trial, rest_law, same_names, set_of}
 use Rattle.mc_boot.specs.Restart.{confirmed, may_confirm}
 use Rattle.mc_boot.specs.Plan.{image_size, PowerOn, power_on, plan}
-use Rattle.mc_boot.specs.Life.{AreSecondary, Event, Forgets, AllStored, IsDelivered, Leads, LifeLaw, Lives, Moment, NextLaw, OnlyLaw, DeviceState, Predicts, Leaves, asked_of, booted_by, can_swap, confirmed_by, done_or_fails, is_boot, is_on_trial, resting, device_state, starts_image, cut, boot, store, confirm, mark}
+use Rattle.mc_boot.specs.Life.{AreSecondary, Event, Forgets, AllStored, IsDelivered, Leads, LifeLaw, Lives, Moment, NextLaw, OnlyLaw, Predicts, Leaves, asked_of, can_swap, confirmed_by, done_or_fails, is_boot, is_on_trial, resting, device_state, starts_image, cut, boot, store, confirm, mark}
 use Rattle.mc_boot.specs.Outcome.{Report, outcome_of, after, cut_at}
 use Rattle.mc_boot.specs.declared.outcome.BootResult.TheVariants as results
 use Rattle.mc_flash.specs.Flash.{is_blank, Content, put, with_bytes}
 use Rattle.mc_flash.specs.facts.Changes.{Changed, changed, changed_sized, same_content, sized_is}
-use Rattle.mc_flash.specs.facts.Layouts.{data_end, fits_few, image_is_data}
+use Rattle.mc_flash.specs.facts.Layouts.{fits_few}
 use Rattle.mc_flash.specs.Geometry.{Geometry, IsLayout, greatest_sectors}
 use Rattle.mc_flash.specs.declared.op.Slot.TheVariants.{Primary, Secondary}
 use Rattle.mc_image.specs.Image.{IsBytes}
 use Rattle.mc_image.specs.Valid.{Identity, id_of, is_valid}
-use Rattle.mc_trailer.specs.declared.tables.SwapType.{SwapType}
 use Rattle.mc_trailer.specs.declared.tables.SwapType.TheVariants as kinds
 use Rattle.mc_trailer.specs.facts.Fields.{field_kept_beside, reads_image_ok, same_copy_done, written_field}
 use Rattle.mc_trailer.specs.facts.Places.{field_ends, one_unit_fits}
@@ -52,13 +50,7 @@ rests_delivered g s ok is = record {
 -- whatever the image leaves in the secondary
 rests_stored : (g : Geometry) (s : Content) (bytes : List ℕ) → AtRest g s → AreSecondary g bytes → AtRest g (with_bytes s Secondary bytes)
 unfolding trailer_of
-rests_stored g s bytes rest are = record {
-  sized = record { primary = rest.sized.primary; secondary = are.sized };
-  primary = rest.primary;
-  at_most = rest.at_most;
-  secondary = λ valid. its_own bytes are.numbers valid;
-  rest = rest.rest;
-}
+rests_stored g s bytes rest are = grind arith
 
 -- when it confirms itself
 three_hold : (a b c : Bool) → (a && b && c) ≡ true → b ≡ true
@@ -67,10 +59,7 @@ three_hold a b c is = grind (arith, is)
 module _ (laws : ImageLaws) (g : Geometry) (ok : IsLayout g) (s : Content) (rest : AtRest g s) where
   -- the image ends before the trailer
   before_trailer : image_size s.primary ≤ place g Primary field.ImageOk
-  before_trailer =
-      let at_most = rest.at_most in
-      let rows : greatest_sectors g * g.sector ≤ data_end g Primary = mul-le-mul_right g.sector (image_is_data g Primary (greatest_sectors g) (omega arith)) in
-      omega (arith, at_most, rows, place_beyond_data g Primary field.ImageOk ok)
+  before_trailer = grind arith
 
   -- any bytes at image-ok, where the swap is finished
   module _ (new : List ℕ) (short : length new ≤ room field.ImageOk) where
@@ -161,9 +150,7 @@ module _ (laws : ImageLaws) (g : Geometry) (ok : IsLayout g) (s : Content) (rest
 
 cut_more : (r : Rules) (g : Geometry) (cuts : List ℕ) (c : ℕ) (s u t : Content) → after (power_on r g s) cuts ≡ Some u → cut_at (power_on r g u) c ≡ Some t
     → after (power_on r g s) (cuts ++ c ∷ []) ≡ Some t
-cut_more r g [] c s u t come is =
-    let same : s ≡ u = same_content s u come in
-    ap (option_and_then (λ y. after (power_on r g y) [])) (rw (← same) at is)
+cut_more r g [] c s u t come is = grind arith
 cut_more r g (d ∷ cuts) c s u t come is = go (λ y e. cut_more r g cuts c y u t e is) (cut_at (power_on r g s) d) come
   where
     go : ((y : Content) → after (power_on r g y) cuts ≡ Some u → after (power_on r g y) (cuts ++ c ∷ []) ≡ Some t) → (o : Option Content)
@@ -197,10 +184,8 @@ module _ (laws : ImageLaws) (r : Rules) (g : Geometry) (ok : IsLayout g) where
       })
   leads m boot n is to =
       let end = rest_law laws r g ok m.rested is.rest m.content is.cuts is.come in
-      let same : end.0 ≡ to.0 = same_content end.0 to.0 (sym end.1.end ∙ to.2) in
-      rw to.4 (at_rest r g to.0 to.1 (rw same at end.2.rest))
-  leads m (store bytes) n is to =
-      rw to.2 (at_rest r g (with_bytes m.content Secondary bytes) true (rests_stored g m.content bytes (runs_at_rest r g m is to.0) to.1))
+      grind (arith, same_content, at_rest)
+  leads m (store bytes) n is to = grind (arith, rests_stored)
   leads m (mark bytes) n is to =
       rw to.3 (at_rest r g (with_bytes m.content Primary (put m.content.primary (place g Primary field.ImageOk) bytes)) true
       (rests_marked laws g ok m.content (runs_at_rest r g m is to.0) bytes to.2 (set_of (trailer_of g m.content Primary).copy_done to.1)))
@@ -223,8 +208,7 @@ module _ (laws : ImageLaws) (r : Rules) (g : Geometry) (ok : IsLayout g) (s : Co
   after_trial : (trial good : Bool) → is_good (trailer_of g s Secondary).magic ≡ good
       → done_or_fails (asked_of r.profile false (trailer_of g s Secondary)) (can_swap g s.secondary)
       ≡ (if good then done_or_fails (asked_of r.profile trial (trailer_of g s Secondary)) (can_swap g s.secondary) else kinds.None)
-  after_trial trial true good = rw good refl
-  after_trial trial false good = rw good refl
+  after_trial trial it good = grind arith
 
   pub predicts : Predicts r g s
   unfolding confirmed
@@ -257,24 +241,8 @@ record Passes (K : Option Identity → Bool) (s : Content) : Type 0 where
   primary : K (id_of s.primary) ≡ true
   secondary : K (id_of s.secondary) ≡ true
 
-booted_passes : (K : Option Identity → Bool) (kind : SwapType) (x : DeviceState) → K x.primary ≡ true → K x.secondary ≡ true
-    → (K (booted_by kind x).primary ≡ true) × (K (booted_by kind x).secondary ≡ true)
-booted_passes K kinds.Test x p q = (q, p)
-booted_passes K kinds.Perm x p q = (q, p)
-booted_passes K kinds.Revert x p q = (q, p)
-booted_passes K kind x p q = (p, q)
-
 leaves_passes : (K : Option Identity → Bool) (r : Rules) (g : Geometry) (s u z : Content) → Passes K s → Leaves r g s z ⊎ Forgets r g s u z → Passes K z
-leaves_passes K r g s u z is (inl t) =
-    let both = booted_passes K (plan (power_on r g s)).kind (device_state r g s) is.primary is.secondary in
-    record {
-      primary = ap (λ (x : DeviceState). K x.primary) t.names ∙ both.0;
-      secondary = ap (λ (x : DeviceState). K x.secondary) t.names ∙ both.1;
-    }
-leaves_passes K r g s u z is (inr f) = record {
-  primary = ap (λ (x : DeviceState). K x.primary) f.names ∙ is.primary;
-  secondary = ap (λ (x : DeviceState). K x.secondary) f.names ∙ is.secondary;
-}
+leaves_passes it r g s u z is one = grind arith
 
 module _ (laws : ImageLaws) (K : Option Identity → Bool) (r : Rules) (g : Geometry) (ok : IsLayout g) where
   -- both images at rest pass it
@@ -282,11 +250,8 @@ module _ (laws : ImageLaws) (K : Option Identity → Bool) (r : Rules) (g : Geom
   leads_passes m (cut c) n is pass stored to = rw to.2 pass
   leads_passes m boot n is pass stored to =
       let end = rest_law laws r g ok m.rested is.rest m.content is.cuts is.come in
-      let same : end.0 ≡ to.0 = same_content end.0 to.0 (sym end.1.end ∙ to.2) in
-      rw to.4 (rw same at (leaves_passes K r g m.rested m.content end.0 pass end.2.leaves))
-  leads_passes m (store bytes) n is pass stored to =
-      let here = ap (λ (s : Content). K (id_of s.primary)) (is.running to.0) ∙ pass.primary in
-      rw to.2 (record { primary = here; secondary = stored.0 })
+      grind (arith, same_content, leaves_passes)
+  leads_passes m (store bytes) n is pass stored to = grind arith
   leads_passes m (mark bytes) n is pass stored to =
       let at : Passes K m.content = rw (is.running to.0) pass in
       rw to.3 (record {
@@ -302,8 +267,7 @@ module _ (laws : ImageLaws) (K : Option Identity → Bool) (r : Rules) (g : Geom
       })
 
   first_of : (e : Event) (events : List Event) → AllStored K (e ∷ events) → AllStored K (e ∷ []) × AllStored K events
-  first_of (store bytes) events stored = ((stored.0, tt), stored.1)
-  first_of e events stored = (tt, stored)
+  first_of e events stored = grind arith
 
   lives_passes : (events : List Event) (m n : Moment) → Reached r g m → Passes K m.rested → AllStored K events → Lives r g m events n → Passes K n.rested
   lives_passes [] m n is pass stored same = rw same pass

@@ -1,16 +1,16 @@
 -- Where operations write, and contents that are alike once sectors are erased.
-use Rattle.std.proofs.Common.{ap, arith, inl, inr, length-append, subst, sym, ◌∙◌}
+use Rattle.std.proofs.Common.{arith, inl, inr, length-append, subst, sym, ◌∙◌}
 use Rattle.std.proofs.lemmas.Bool.{cases_lt}
 use Rattle.std.proofs.lemmas.List.{get_or_default, length-drop, length-replicate, length-take, same_lists}
 use Rattle.std.specs.List.{AllByRecursion, between}
-use Rattle.std.specs.Prelude.{Bool, List, None, Some, [], drop, false, if◌then◌else◌, length, map, refl, replicate, take, true, ℕ, ◌*◌, ◌++◌, ◌+◌, ◌-◌, ◌<◌, ◌∷◌, ◌≡◌, ◌≢◌, ◌≤◌, ◌⊎◌}
+use Rattle.std.specs.Prelude.{Bool, List, None, Some, [], drop, false, if◌then◌else◌, length, map, replicate, take, true, ℕ, ◌*◌, ◌+◌, ◌-◌, ◌<◌, ◌∷◌, ◌≡◌, ◌≢◌, ◌≤◌, ◌⊎◌}
 use Rattle.mc_flash.specs.Flash.{Content, IsSized, apply, byte, bytes_of, erased, in_slot, is_blank, programmed, put, sectors_of, with_bytes}
 use Rattle.mc_flash.specs.Geometry.{Geometry}
 use Rattle.mc_flash.specs.declared.op.Op.{Op}
 use Rattle.mc_flash.specs.declared.op.Op.TheVariants.{Copy, Erase, Program}
 use Rattle.mc_flash.specs.declared.op.Slot.{Slot}
 use Rattle.mc_flash.specs.declared.op.Slot.TheVariants.{Primary, Secondary}
-use Rattle.mc_flash.specs.facts.Changes.{Changed, changed, copied, copy_is_program, program_changes, program_was_blank, same_content as one_content, sized_is}
+use Rattle.mc_flash.specs.facts.Changes.{Changed, changed, copied, program_changes, program_was_blank, same_content as one_content, sized_is}
 use Rattle.mc_flash.specs.facts.Layouts.{sector_inside}
 
 -- What it is for a list of operations to go on where another was cut.
@@ -98,9 +98,7 @@ pub record SameOutside (g : Geometry) (es : List Sector) (s t : Content) : Type 
   pub sizes : (o : Slot) → length (bytes_of t o) ≡ length (bytes_of s o)
 
 pub which_slot : (a b : Slot) → (a ≡ b) ⊎ (a ≢ b)
-which_slot Primary Primary = inl refl
-which_slot Secondary Secondary = inl refl
-which_slot a b = inr (λ e. cc)
+which_slot a b = grind arith
 
 pub erases : (g : Geometry) (s : Content) (e : Sector) → e.index * g.sector + g.sector ≤ length (bytes_of s e.slot) → Changed s (erase_in g s e) e.slot (e.index * g.sector) (replicate g.sector 255)
 erases g s e fits = changed s e.slot (e.index * g.sector) (replicate g.sector 255) (omega (arith, fits, length-replicate {A = ℕ} g.sector 255))
@@ -152,9 +150,7 @@ same_bytes s t o len each = same_lists (bytes_of t o) (bytes_of s o) len (λ k d
     get_or_default (bytes_of t o) k d 0 h ∙ each k ∙ sym (get_or_default (bytes_of s o) k d 0 (omega (arith, h, len))))
 
 pub same_content : (s t : Content) → t.primary ≡ s.primary → t.secondary ≡ s.secondary → t ≡ s
-same_content s t p q =
-    ap (λ (xs : List ℕ). let x : Content = record { primary = xs; secondary = t.secondary } in x) p
-    ∙ ap (λ (ys : List ℕ). let x : Content = record { primary = s.primary; secondary = ys } in x) q
+same_content s t p q = grind arith
 
 -- what holds of each element, said weaker
 pub all_weaker : {A : Type 0} (P Q : A → Type 0) → ((x : A) → P x → Q x) → (xs : List A) → AllByRecursion P xs → AllByRecursion Q xs
@@ -208,8 +204,7 @@ program_outside : (g : Geometry) (es : List Sector) (s t : Content) (slot : Slot
 program_outside g es s t slot at new index listed fits from to is =
     let inside : at + length new ≤ length (bytes_of s slot) = omega (arith, to, listed_fits g es s slot index fits listed) in
     let made = program_changes g s slot at new inside (program_was_blank g s t slot at new inside is) in
-    let same : made.0 ≡ t = one_content made.0 t (sym made.1 ∙ is) in
-    rw (← same) (changed_outside g es s made.0 slot at new index made.2 listed from to)
+    grind (arith, changed_outside, from, to)
 
 -- An operation changes nothing beside what it writes.
 pub op_outside : (g : Geometry) (es : List Sector) (op : Op) (s t : Content) → WritesIn g es op → Fit g es s → apply g op s ≡ Some t → SameOutside g es s t
@@ -221,9 +216,7 @@ op_outside g es (Erase slot sector) s t writes fits is =
     let made : Changed s (with_bytes s slot (put (bytes_of s slot) (sector * g.sector) new)) slot (sector * g.sector) new = changed s slot (sector * g.sector) new inside in
     rw (← one_content _ t is) (changed_outside g es s _ slot (sector * g.sector) (replicate g.sector 255) writes.index made writes.listed writes.from (omega (arith, wide, writes.to)))
 op_outside g es (Program slot at bytes) s t writes fits is = program_outside g es s t slot at bytes writes.index writes.listed fits writes.from writes.to is
-op_outside g es (Copy from at to offset len) s t writes fits is =
-    program_outside g es s t to offset (copied s from at len) writes.index writes.listed fits writes.from
-    (omega (arith, short_copy s from at len, writes.to)) (sym (copy_is_program g s from to at offset len) ∙ is)
+op_outside g es (Copy from at to offset len) s t writes fits is = grind (arith, program_outside, short_copy)
 
 -- An operation that writes in these sectors alone does not change what blanking them gives.
 pub op_blanked : (g : Geometry) (es : List Sector) (op : Op) (s t : Content) → WritesIn g es op → Fit g es s → apply g op s ≡ Some t → (blank g es t ≡ blank g es s) × Fit g es t
@@ -233,13 +226,10 @@ op_blanked g es op s t writes fits is =
 
 -- No operation makes a slot shorter.
 longer_put : (xs new : List ℕ) (at : ℕ) → length xs ≤ length (put xs at new)
-longer_put xs new at =
-    omega (arith, length-append (take at xs) (new ++ drop (at + length new) xs), length-append new (drop (at + length new) xs), length-take at xs, length-drop (at + length new) xs)
+longer_put xs new at = grind (arith, length-append, length-take, length-drop)
 
 longer_slot : (s : Content) (slot : Slot) (new : List ℕ) → length (bytes_of s slot) ≤ length new → (o : Slot) → length (bytes_of s o) ≤ length (bytes_of (with_bytes s slot new) o)
-longer_slot s Primary new more Primary = more
-longer_slot s Secondary new more Secondary = more
-longer_slot s slot new more o = omega arith
+longer_slot s slot new more o = grind arith
 
 programmed_longer : (s t : Content) (slot : Slot) (at : ℕ) (new : List ℕ) → in_slot s slot (programmed (bytes_of s slot) at new) ≡ Some t → (o : Slot) → length (bytes_of s o) ≤ length (bytes_of t o)
 programmed_longer s t slot at new is o = go (is_blank (between at (at + length new) (bytes_of s slot))) is
@@ -251,7 +241,6 @@ programmed_longer s t slot at new is o = go (is_blank (between at (at + length n
 
 pub op_longer : (g : Geometry) (op : Op) (s t : Content) → apply g op s ≡ Some t → (o : Slot) → length (bytes_of s o) ≤ length (bytes_of t o)
 unfolding apply
-op_longer g (Erase slot sector) s t is o =
-    rw (← one_content _ t is) (longer_slot s slot (put (bytes_of s slot) (sector * g.sector) (replicate g.sector 255)) (longer_put (bytes_of s slot) (replicate g.sector 255) (sector * g.sector)) o)
+op_longer g (Erase slot sector) s t is o = grind (arith, longer_put)
 op_longer g (Program slot at bytes) s t is o = programmed_longer s t slot at bytes is o
 op_longer g (Copy from at to offset len) s t is o = programmed_longer s t to offset (copied s from at len) is o

@@ -18,7 +18,7 @@ use Rattle.mc_flash.specs.declared.op.Op.TheVariants.{Copy, Erase}
 use Rattle.mc_flash.specs.declared.op.Slot.{Slot}
 use Rattle.mc_flash.specs.declared.op.Slot.TheVariants.{Primary}
 use Rattle.mc_flash.specs.facts.Changes.{Changed, changed_sized, copied, copy_is_program, erase_changes, length-copied, program_changes, sized_is}
-use Rattle.mc_flash.specs.facts.Layouts.{chunks_cover, data_end, data_sectors, sector_in_data}
+use Rattle.mc_flash.specs.facts.Layouts.{chunks_cover, data_end, data_sectors}
 use Rattle.mc_trailer.specs.Trailer.{entry_place, one_unit, room}
 use Rattle.mc_trailer.specs.facts.Places.{entry_ends, one_unit_len}
 use Rattle.mc_boot.proofs.Meets.{which_slot}
@@ -45,17 +45,10 @@ pub record Copied (g : Geometry) (s t : Content) (x : Transfer) (c : ℕ) : Type
 
 -- the source is outside the target
 source_outside : (g : Geometry) (x : Transfer) (i : ℕ) → IsInside g x → i < g.sector → IsOutside g x.to x.to_sector x.from (x.from_sector * g.sector + i)
-source_outside g x i inside below same =
-    let next : x.from_sector + 1 ≡ x.to_sector = inside.apart same in
-    let up : x.to_sector * g.sector ≡ (x.from_sector + 1) * g.sector = ap (λ n. n * g.sector) (sym next) in
-    inl (omega (arith, up, below))
+source_outside g x i inside below same = grind arith
 
 pub unchanged : (s t : Content) (slot : Slot) (at : ℕ) (new : List ℕ) (o : Slot) (i : ℕ) → Changed s t slot at new → (o ≡ slot → (i < at) ⊎ (at + length new ≤ i)) → byte t o i ≡ byte s o i
-unchanged s t slot at new o i ch out = elim (which_slot o slot) [
-  | inl same ↦
-      rw same (elim (out same) [ inl low ↦ ch.before i low | inr high ↦ ch.beyond i high ])
-  | inr differ ↦ ch.other o i differ
-]
+unchanged s t slot at new o i ch out = grind arith
 
 after_copy : (g : Geometry) (s t u : Content) (x : Transfer) (c : ℕ) → IsInside g x → c * g.chunk + g.chunk ≤ g.sector → x.from_sector * g.sector + c * g.chunk + g.chunk ≤ length (bytes_of t x.from)
     → Copied g s t x c
@@ -175,15 +168,11 @@ data_begin g n start sized = record {
 -- what stands after the data sectors doesn't matter
 pub data_same : (g : Geometry) (n : ℕ) (start : Content) (k : ℕ) (s t : Content) → IsSized g t → ((o : Slot) (i : ℕ) → i < data_end g o → byte t o i ≡ byte s o i) → Data g n start k s
     → Data g n start k t
-data_same g n start k s t sized same data_ = record {
-  sized = sized;
-  held = λ o i m below short away. same o (i * g.sector + m) (omega (arith, short, sector_in_data g o i below)) ∙ data_.held o i m below short away;
-}
+data_same g n start k s t sized same data_ = grind arith
 
 -- a change after the data sectors of a slot
 pub kept_below : (g : Geometry) (s t : Content) (slot : Slot) (at : ℕ) (new : List ℕ) → Changed s t slot at new → data_end g slot ≤ at → (o : Slot) (i : ℕ) → i < data_end g o → byte t o i ≡ byte s o i
-kept_below g s t slot at new ch beyond o i below =
-    unchanged s t slot at new o i ch (λ same. inl (let E : Slot → Type 0 = λ p. i < data_end g p in let here : i < data_end g slot = subst E same below in omega (arith, here, beyond)))
+kept_below g s t slot at new ch beyond o i below = grind arith
 
 other_sector : (g : Geometry) (i j m : ℕ) → (i ≡ j → ⊥) → m < g.sector → (i * g.sector + m < j * g.sector) ⊎ (j * g.sector + g.sector ≤ i * g.sector + m)
 other_sector g i j m differ short = elim (cases_lt i j) [
@@ -203,11 +192,7 @@ data_half g n start k c s u x at data_ so = record {
 
 -- The source of a transfer is not its target.
 source_no_target : (g : Geometry) (n k : ℕ) (x : Transfer) → slice_get (transfers g n) k ≡ Some x → IsInside g x → IsNoTarget g n k x.from x.from_sector
-source_no_target g n k x at inside y there slot sector =
-    let same : x ≡ y = same_transfer x y (sym at ∙ there) in
-    let to : x.from ≡ x.to = slot ∙ ap (λ (z : Transfer). z.to) (sym same) in
-    let here : x.from_sector ≡ x.to_sector = sector ∙ ap (λ (z : Transfer). z.to_sector) (sym same) in
-    omega (arith, here, inside.apart to)
+source_no_target g n k x at inside y there slot sector = grind arith
 
 -- one transfer more
 pub data_step : (g : Geometry) (n : ℕ) (start : Content) (k : ℕ) (s u : Content) (x : Transfer) → IsLayout g → n ≤ greatest_sectors g → slice_get (transfers g n) k ≡ Some x → Data g n start k s

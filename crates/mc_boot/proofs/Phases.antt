@@ -1,26 +1,26 @@
 -- The phases of a swap, the plan of the boot in each, and fields by what is read of them.
-use Rattle.std.proofs.Common.{add-zero, ap, arith, inl, inr, sym, ◌∙◌}
+use Rattle.std.proofs.Common.{ap, arith, inl, inr, sym, ◌∙◌}
 use Rattle.std.proofs.lemmas.Bool.Decides.{nat_tests}
 use Rattle.std.proofs.lemmas.List.Edits.{get_or-between}
 use Rattle.std.proofs.lemmas.Slice.Eq.{bytes_eq-Decides}
 use Rattle.std.specs.Int.{div_ceil}
-use Rattle.std.specs.Prelude.{Bool, List, Option, Some, [], bytes_eq, false, if◌then◌else◌, is_none, max, nat_lt, not, refl, replicate, slice_index, suc, true, zero, ℕ, ◌&&◌, ◌*◌, ◌+◌, ◌-◌, ◌<◌, ◌==◌, ◌^◌, ◌∷◌, ◌≡◌, ◌≤◌, ◌⊎◌, ◌≢◌}
+use Rattle.std.specs.Prelude.{Bool, List, Option, Some, [], bytes_eq, false, if◌then◌else◌, is_none, max, refl, replicate, suc, true, zero, ℕ, ◌*◌, ◌+◌, ◌-◌, ◌<◌, ◌==◌, ◌^◌, ◌∷◌, ◌≡◌, ◌≤◌, ◌⊎◌, ◌≢◌}
 use Rattle.mc_boot.proofs.Images.{HasImage, ImageLaws}
 use Rattle.mc_boot.proofs.Moving.{Data}
-use Rattle.mc_boot.proofs.Plans.{plan_new, plan_resumed, resumed_count}
+use Rattle.mc_boot.proofs.Plans.{plan_new, plan_resumed}
 use Rattle.mc_boot.proofs.Transfers.{Entries, entries_last, entries_not, left_at, other_number}
-use Rattle.mc_boot.specs.Plan.{Plan, PowerOn, again, confirms, first_left, image_size, images_of, is_test, new_list, new_plan, new_swap, nothing, number_of, plan, resumed_list, resumed_plan, resumed_swap}
+use Rattle.mc_boot.specs.Plan.{Plan, PowerOn, again, confirms, first_left, image_size, images_of, is_test, new_list, new_plan, new_swap, nothing, number_of, plan, resumed_list, resumed_plan}
 use Rattle.mc_boot.specs.Restart.{forgets_reverts}
 use Rattle.mc_boot.specs.declared.image.Images.{Images}
-use Rattle.mc_flash.specs.Flash.{Content, IsSized, byte, bytes_of, is_blank}
+use Rattle.mc_flash.specs.Flash.{Content, IsSized, byte, is_blank}
 use Rattle.mc_flash.specs.Geometry.{Geometry, IsLayout, greatest_sectors, in_pieces}
 use Rattle.mc_flash.specs.declared.flash.Grain.{Grain}
 use Rattle.mc_flash.specs.declared.op.Slot.{Slot}
 use Rattle.mc_flash.specs.declared.op.Slot.TheVariants.{Primary, Secondary}
 use Rattle.mc_flash.specs.facts.Changes.{sized_is}
 use Rattle.mc_image.specs.Valid.{is_valid}
-use Rattle.mc_trailer.specs.Tables.{asks_perm, asks_test, is_good, is_resumed, is_set, is_unset, resumes, reverts_at, swap_type, table_of}
-use Rattle.mc_trailer.specs.Trailer.{bytes_at, flag_of, highest_entry, magic_bytes, magic_of, one_unit, place, size_bytes, trailer_of}
+use Rattle.mc_trailer.specs.Tables.{is_resumed, resumes, reverts_at, swap_type, table_of}
+use Rattle.mc_trailer.specs.Trailer.{flag_of, highest_entry, magic_bytes, magic_of, one_unit, place, size_bytes, trailer_of}
 use Rattle.mc_trailer.specs.declared.places.Field.{Field}
 use Rattle.mc_trailer.specs.declared.tables.Profile.{Profile}
 use Rattle.mc_trailer.specs.declared.tables.SwapType.{SwapType}
@@ -28,13 +28,11 @@ use Rattle.mc_trailer.specs.declared.trailer.Flag.{Flag}
 use Rattle.mc_trailer.specs.declared.trailer.Magic.{Magic}
 use Rattle.mc_trailer.specs.declared.trailer.Trailer.{Trailer}
 use Rattle.mc_trailer.specs.facts.Fields.{FieldIs, FieldsAre, blank_fields, field_as, reads_absent, reads_copy_done, reads_good, reads_image_ok, reads_info, reads_not_good, reads_size}
-use Rattle.mc_trailer.specs.facts.Tables.{types_are_rows}
 use Rattle.mc_trailer.specs.declared.places.Field.TheVariants as field
 use Rattle.mc_trailer.specs.declared.trailer.Flag.TheVariants as flags
 use Rattle.mc_flash.specs.declared.flash.Grain.TheVariants as grains
 use Rattle.mc_trailer.specs.declared.tables.SwapType.TheVariants as kinds
 use Rattle.mc_trailer.specs.declared.trailer.Magic.TheVariants as magics
-use Rattle.mc_trailer.specs.declared.tables.Profile.TheVariants as profiles
 
 -- What holds before each operation of a swap, however often it was cut.
 
@@ -159,30 +157,9 @@ tests_when profile p q good unset = rw good (rw unset refl)
 stays_when : (profile : Profile) (p q : Trailer) → q.magic ≡ magics.Good → q.image_ok ≡ flags.Set → swap_type profile p q ≡ kinds.Perm
 stays_when profile p q good set = rw good (rw set refl)
 
-all_hold : (a b c d : Bool) → a ≡ true → b ≡ true → c ≡ true → d ≡ true → (a && b && c && d) ≡ true
-all_hold a b c d at_a at_b at_c at_d = rw at_a (rw at_b (rw at_c (rw at_d refl)))
-
 pub reverts_when : (profile : Profile) (p q : Trailer) → p.magic ≡ magics.Good → reverts_at profile q.magic ≡ true → p.image_ok ≡ flags.Unset → p.copy_done ≡ flags.Set
     → swap_type profile p q ≡ kinds.Revert
-reverts_when profile p q good reverts unset set =
-    (types_are_rows profile p q kinds.Revert).1
-    (all_hold (is_good p.magic) (reverts_at profile q.magic) (is_unset p.image_ok) (is_set p.copy_done) (ap is_good good) reverts (ap is_unset unset) (ap is_set set))
-
-third_fails : (a b c d : Bool) → c ≡ false → (a && b && c && d) ≡ false
-third_fails a b c d is = grind (arith, is)
-
-nothing_asked : (p q : Trailer) → q.magic ≡ magics.Unset → (asks_test p q ≡ false) × (asks_perm p q ≡ false)
-nothing_asked p q absent = (rw absent refl, rw absent refl)
-
-pub none_when : (profile : Profile) (p q : Trailer) → q.magic ≡ magics.Unset → p.image_ok ≡ flags.Set → swap_type profile p q ≡ kinds.None
-none_when profile p q absent set =
-    let asks = nothing_asked p q absent in
-    (types_are_rows profile p q kinds.None).1 (asks.0, asks.1, third_fails (is_good p.magic) (reverts_at profile q.magic) (is_unset p.image_ok) (is_set p.copy_done) (ap is_unset set))
-
-none_at_all : (profile : Profile) (p q : Trailer) → p.magic ≡ magics.Unset → q.magic ≡ magics.Unset → (resumes p q ≡ false) × (swap_type profile p q ≡ kinds.None)
-none_at_all profile p q absent_p absent_q =
-    let asks = nothing_asked p q absent_q in
-    (rw absent_p refl, (types_are_rows profile p q kinds.None).1 (asks.0, asks.1, rw absent_p refl))
+reverts_when profile p q good reverts unset set = grind arith
 
 -- a plan where the boot does not resume
 pub new_is : (x : PowerOn) (kind : SwapType) (p : Plan) → is_resumed x.geometry x.content ≡ false → table_of x.rules.profile x.geometry x.content ≡ kind
@@ -190,28 +167,11 @@ pub new_is : (x : PowerOn) (kind : SwapType) (p : Plan) → is_resumed x.geometr
 new_is x kind p not_so of is = plan_new x not_so ∙ ap (new_plan x.rules.grain x.geometry (images_of x.content)) of ∙ is
 
 pub swap_of : (b : Bool) (kind : SwapType) → IsSwapOf b kind → is_test kind ≡ b
-swap_of b kinds.Test of = sym of
-swap_of b kinds.Perm of = sym of
-swap_of b kinds.Revert of = sym of
-swap_of b kind of = absurd of
+swap_of b kind of = grind arith
 
 -- a swap is no panic
 pub no_panic : (b : Bool) (kind : SwapType) → IsSwapOf b kind → kind ≢ kinds.Panic
 no_panic b kind of same = rw same at of
-
-abbrev by_info : Grain → Geometry → Flag → Option ℕ → ℕ → ℕ → Plan
-by_info c g image_ok highest n info =
-    if info == 2 then resumed_swap c g image_ok highest kinds.Test n
-    else if info == 3 then resumed_swap c g image_ok highest kinds.Perm n
-    else if info == 4 then resumed_swap c g image_ok highest kinds.Revert n
-    else nothing kinds.None
-
-of_kind : (c : Grain) (g : Geometry) (image_ok : Flag) (highest : Option ℕ) (n : ℕ) (b : Bool) (kind : SwapType) → IsSwapOf b kind
-    → by_info c g image_ok highest n (number_of kind) ≡ resumed_swap c g image_ok highest kind n
-of_kind c g image_ok highest n b kinds.Test of = refl
-of_kind c g image_ok highest n b kinds.Perm of = refl
-of_kind c g image_ok highest n b kinds.Revert of = refl
-of_kind c g image_ok highest n b kind of = absurd of
 
 -- the plan of a swap that runs
 abbrev pub running : Geometry → SwapType → ℕ → ℕ → Bool → Plan
@@ -220,14 +180,10 @@ running g kind n k erases = record { kind = kind; sectors = n; list = resumed_li
 running_is : (c : Grain) (g : Geometry) (p : Trailer) (highest : Option ℕ) (b : Bool) (kind : SwapType) (size n k : ℕ) → IsSwapOf b kind → p.swap_info ≡ number_of kind → p.swap_size ≡ size
     → div_ceil size g.sector ≡ n → 0 < n → n ≤ greatest_sectors g
     → first_left g n highest ≡ Some k → is_none highest ≡ (k == 0) → confirms kind p.image_ok ≡ false → resumed_plan c g p highest ≡ running (in_pieces c g) kind n k (k == 0)
-running_is c g p highest b kind size n k of info sized_is count some at_most first any settled =
-    ap (by_info c g p.image_ok highest (div_ceil p.swap_size g.sector)) info
-    ∙ of_kind c g p.image_ok highest (div_ceil p.swap_size g.sector) b kind of
-    ∙ rw (sized_is, count, resumed_count c g p.image_ok highest kind n some at_most, first, any, settled) refl
+running_is c g p highest b kind size n k of info sized_is count some at_most first any settled = grind arith
 
 confirms_not : (b : Bool) (kind : SwapType) (image_ok : Flag) → is_test kind ≡ b → (b ≡ false → image_ok ≡ flags.Set) → confirms kind image_ok ≡ false
-confirms_not true kind image_ok of set = rw of refl
-confirms_not false kind image_ok of set = rw of (rw (set refl) refl)
+confirms_not it kind image_ok of set = grind arith
 
 -- what the entries show: the first transfer that is left, and whether any is made
 found : (g : Geometry) (n k : ℕ) (s : Content) → IsLayout g → IsSized g s → n ≤ greatest_sectors g → k ≤ 3 * n → Entries g n k s → (first_left g n (highest_entry g s) ≡ Some k)
@@ -266,9 +222,7 @@ starting c g kind size n = record { kind = kind; sectors = n; list = new_list c 
 
 pub new_swap_is : (c : Grain) (g : Geometry) (images : Images) (kind : SwapType) (size n : ℕ) → images.valid ≡ true → images.size ≡ size → div_ceil size g.sector ≡ n → n ≤ greatest_sectors g
     → new_swap c g images kind ≡ starting c g kind size n
-new_swap_is c g images kind size n valid larger count at_most =
-    let no_more : nat_lt (greatest_sectors g) n ≡ false = grind (arith, nat_tests) in
-    rw (larger, count, valid, no_more)
+new_swap_is c g images kind size n valid larger count at_most = grind arith
 
 -- the images that the slots begin with, as a plan sees them
 pub record SeesImages (s : Content) (size : ℕ) : Type 0 where
@@ -309,43 +263,32 @@ plan_tested x size n good unset done reverts sees count at_most =
 
 pub plan_settled : (x : PowerOn) → (trailer_of x.geometry x.content Primary).copy_done ≡ flags.Set → (trailer_of x.geometry x.content Secondary).magic ≡ magics.Unset
     → (trailer_of x.geometry x.content Primary).image_ok ≡ flags.Set → plan x ≡ nothing kinds.None
-plan_settled x done absent set =
-    new_is x kinds.None (nothing kinds.None) (not_when_done (trailer_of x.geometry x.content Primary) (trailer_of x.geometry x.content Secondary) done)
-    (none_when x.rules.profile (trailer_of x.geometry x.content Primary) (trailer_of x.geometry x.content Secondary) absent set) refl
+plan_settled x done absent set = grind (arith, new_is)
 
 -- no magic in either slot
 pub plan_none : (x : PowerOn) → (trailer_of x.geometry x.content Primary).magic ≡ magics.Unset → (trailer_of x.geometry x.content Secondary).magic ≡ magics.Unset → plan x ≡ nothing kinds.None
-plan_none x p q =
-    let none = none_at_all x.rules.profile (trailer_of x.geometry x.content Primary) (trailer_of x.geometry x.content Secondary) p q in
-    new_is x kinds.None (nothing kinds.None) none.0 none.1 refl
+plan_none x p q = grind (arith, new_is)
 
 -- an unset magic is one that either profile reverts at, and any that is not good is one of the second
 pub absent_reverts : (profile : Profile) (m : Magic) → m ≡ magics.Unset → reverts_at profile m ≡ true
-absent_reverts profiles.One m is = ap (reverts_at profiles.One) is
-absent_reverts profiles.Two m is = ap (reverts_at profiles.Two) is
+absent_reverts it m is = grind arith
 
 pub magic_unset_reverts : (c : Grain) (profile : Profile) (g : Geometry) (s : Content) → forgets_reverts c profile ≡ false → IsLayout g → IsSized g s → MagicUnset c g s
     → reverts_at profile (trailer_of g s Secondary).magic ≡ true
-magic_unset_reverts grains.Call profile g s keeps ok sized magic_unset = absent_reverts profile (trailer_of g s Secondary).magic (reads_absent g s Secondary ok sized magic_unset)
-magic_unset_reverts grains.Unit profiles.One g s keeps ok sized magic_unset = absurd cc
-magic_unset_reverts grains.Unit profiles.Two g s keeps ok sized magic_unset = ap not (reads_not_good g s Secondary magic_unset)
+magic_unset_reverts it profile g s keeps ok sized magic_unset = grind (arith, reads_absent, reads_not_good)
 
 -- The bytes of a trailer's fields, by what is read of them.
 
 -- a magic
 good_only : (c d : Bool) → (if c then magics.Good else if d then magics.Unset else magics.Bad) ≡ magics.Good → c ≡ true
-good_only true d is = refl
-good_only false true is = absurd cc
-good_only false false is = absurd cc
+good_only it d is = grind arith
 
 good_is : (xs : List ℕ) → magic_of xs ≡ magics.Good → xs ≡ magic_bytes
 good_is xs is = (bytes_eq-Decides xs magic_bytes).0 (good_only (bytes_eq xs magic_bytes) (is_blank xs) is)
 
 pub good_bytes : (g : Geometry) (s : Content) (slot : Slot) → (trailer_of g s slot).magic ≡ magics.Good → FieldIs g s slot field.Magic magic_bytes
 unfolding trailer_of
-good_bytes g s slot is i short within =
-    sym (get_or-between (bytes_of s slot) (place g slot field.Magic) (place g slot field.Magic + 16) i 0 (omega (arith, within)))
-    ∙ ap (λ (l : List ℕ). slice_index l i) (good_is (bytes_at s slot (place g slot field.Magic) 16) is)
+good_bytes g s slot is i short within = grind (arith, get_or-between, good_is)
 
 -- a flag
 pub set_is : (b : ℕ) → flag_of b ≡ flags.Set → b ≡ 1
@@ -355,9 +298,7 @@ pub unset_is : (b : ℕ) → flag_of b ≡ flags.Unset → b ≡ 255
 unset_is b unset = grind (arith, nat_tests, unset)
 
 one_byte : (g : Geometry) (s : Content) (slot : Slot) (f : Field) (value : ℕ) → byte s slot (place g slot f) ≡ value → FieldIs g s slot f (value ∷ [])
-one_byte g s slot f value is i short within =
-    let first : 0 ≡ i = omega (arith, short) in
-    rw (← first) (ap (byte s slot) (add-zero (place g slot f)) ∙ is)
+one_byte g s slot f value is i short within = grind arith
 
 -- The secondary asks for a test or a swap that stays.
 pub asked_from : (g : Geometry) (s : Content) (b : Bool) → (trailer_of g s Secondary).magic ≡ magics.Good → (trailer_of g s Secondary).image_ok ≡ (if b then flags.Unset else flags.Set)

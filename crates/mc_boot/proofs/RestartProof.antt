@@ -81,17 +81,7 @@ module _ (from : PowerOn) (idle : (plan from).list ≡ []) where
       → IsSwapped (again from s) kind from.content from.content → EndsIn (again from s) kind a b from.content from.content
   idle_ends kind a b s none valid one two swapped =
       let end = ends from.rules from.geometry (λ t. t ≡ from.content) (λ t. t ≡ from.content) from.content (rests from.content refl) in
-      let not_panic : (plan from).kind ≢ kinds.Panic = λ panic. cc in
-      record {
-        end = idle_leaves;
-        whole = end.1.whole;
-        not_panic = not_panic;
-        boots = valid;
-        result = boots_so from from.content idle_leaves end.1.whole not_panic valid;
-        primary = one;
-        secondary = two;
-        swapped = swapped;
-      }
+      grind (arith, idle_leaves, boots_so)
 
 -- ---- flashes that two images start from
 
@@ -163,8 +153,7 @@ module _ (laws : ImageLaws) (r : Rules) (g : Geometry) (a b : List ℕ) (ok : Is
   -- what the secondary asks for
   asked_next : (profile : Profile) (trial can e : Bool) (q : Trailer) → q.magic ≡ magics.Good → q.image_ok ≡ (if e then flags.Unset else flags.Set) → can ≡ true
       → done_or_fails (asked_of profile trial q) can ≡ (if e then kinds.Test else kinds.Perm)
-  asked_next profile trial can true q good flag is = rw good (rw flag (rw is refl))
-  asked_next profile trial can false q good flag is = rw good (rw flag (rw is refl))
+  asked_next profile trial can it q good flag is = grind arith
 
   asked_flag : (e : Bool) (s : Content) → FieldsAre g s Secondary (asked e) → (trailer_of g s Secondary).image_ok ≡ (if e then flags.Unset else flags.Set)
   asked_flag true s are = reads_image_ok g s Secondary 255 [] (are field.ImageOk)
@@ -218,9 +207,7 @@ module _ (laws : ImageLaws) (r : Rules) (g : Geometry) (a b : List ℕ) (ok : Is
       record { rest = rest; next = too tested.next; primary = held.0; secondary = held.1 }
 
   by_any : (x : Content) → AtRest g x → (plan (power_on plain g x)).kind ≡ kinds.Revert → (plan (power_on r g x)).kind ≡ kinds.Revert
-  by_any x rest is =
-      next_is r g ok x rest
-      ∙ reverts_too r.profile (is_on_trial (trailer_of g x Primary)) (can_swap g x.secondary) (trailer_of g x Secondary) (sym (next_is plain g ok x rest) ∙ is)
+  by_any x rest is = grind (arith, next_is, reverts_too)
 
 -- the starts of a test and of an upgrade
 module _ (laws : ImageLaws) (r : Rules) (g : Geometry) (a b : List ℕ) (s : Content) (ok : IsLayout g) (at_a : BeginsImage g a) (at_b : BeginsImage g b) (is : IsDelivered g s) where

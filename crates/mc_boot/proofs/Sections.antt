@@ -1,11 +1,11 @@
 -- A course is its sections, one after the other: how many operations each has, and which is which.
 use Rattle.std.proofs.Common.{add-one, ap, append-nil, append_assoc, arith, length-append, sym, zero-add, ◌∙◌}
-use Rattle.std.proofs.Math.Nat.{div-le_self, mod-add-div', mul-le-mul_right}
+use Rattle.std.proofs.Math.Nat.{mod-add-div', mul-le-mul_right}
 use Rattle.std.proofs.lemmas.List.{length-drop}
 use Rattle.std.proofs.lemmas.List.FromFn.{length-map-range_with_len}
 use Rattle.std.proofs.lemmas.Nat.{mod_below}
 use Rattle.std.proofs.lemmas.Option.{slice_get_within}
-use Rattle.std.specs.Prelude.{Bool, IfSome, List, None, Option, Some, [], drop, get_or, length, map, max, refl, slice_get, suc, take, false, true, zero, ℕ, ◌∷◌, ◌%◌, ◌*◌, ◌++◌, ◌+◌, ◌-◌, ◌/◌, ◌<◌, ◌≡◌, ◌≤◌}
+use Rattle.std.specs.Prelude.{Bool, IfSome, List, Option, Some, [], drop, get_or, length, map, max, refl, slice_get, suc, take, false, true, zero, ℕ, ◌∷◌, ◌%◌, ◌*◌, ◌++◌, ◌+◌, ◌-◌, ◌/◌, ◌<◌, ◌≡◌, ◌≤◌}
 use Rattle.mc_boot.specs.Boot.{list_from}
 use Rattle.mc_boot.specs.Plan.{is_revert, new_list, opening_writes, preparation_writes, resumed_list, steps, swap_list, trailer_erase, trailer_erases, transfers, write_count}
 use Rattle.mc_boot.specs.declared.course.Opening.{Opening}
@@ -84,7 +84,7 @@ module _ (c : Grain) (g : Geometry) (n : ℕ) where
 
   -- a course is its sections
   pub preparation_is : (size : ℕ) → ops_of (preparation_sections size) ≡ trailer_erases g Secondary ++ preparation_writes c g size
-  preparation_is size = grind (arith, append_assoc, append-nil)
+  preparation_is size = grind (arith, append-nil)
 
   pub swap_is : (kind : SwapType) (size : ℕ) → ops_of (swap_sections kind size) ≡ swap_list c g kind size n
   swap_is kind size = grind (arith, append_assoc)
@@ -93,7 +93,7 @@ module _ (c : Grain) (g : Geometry) (n : ℕ) where
   resumed_is first erases image_ok = grind (arith, append_assoc)
 
   pub opening_is : (kind : SwapType) (size : ℕ) → ops_of (take 5 (swap_sections kind size)) ≡ trailer_erases g Primary ++ opening_writes c g kind size
-  opening_is kind size = grind (arith, append-nil, append_assoc)
+  opening_is kind size = grind (arith, append-nil)
 
   pub revert_is : (kind : SwapType) (size : ℕ) → is_revert kind ≡ true → new_list c g kind size n ≡ ops_of (preparation_sections size) ++ ops_of (swap_sections kind size)
   revert_is kind size revert = rw (revert, preparation_is size, swap_is kind size) (sym (append_assoc (trailer_erases g Secondary) (preparation_writes c g size) (swap_list c g kind size n)))
@@ -103,7 +103,7 @@ module _ (c : Grain) (g : Geometry) (n : ℕ) where
 
   -- no course is long
   few_units : (m : ℕ) → m ≤ 16 → write_count c g m ≤ 16
-  few_units m small = grind (arith, div-le_self m g.unit)
+  few_units m small = grind arith
 
   module _ (ok : IsLayout g) (fits : n ≤ greatest_sectors g) where
     few_in : (s : Section) → length (ops_in c g n s) ≤ 201332736
@@ -124,12 +124,12 @@ module _ (c : Grain) (g : Geometry) (n : ℕ) where
     pub few_list : (o : Opening) (k : ℕ) → k ≡ length (list_from c g n o) → k ≤ 204000000
     few_list o k is =
         let whole : 3 * n * (g.sector / g.chunk + 2) ≤ (3 * n - 0) * (g.sector / g.chunk + 2) = mul-le-mul_right (g.sector / g.chunk + 2) (omega arith) in
-        omega (arith, is, whole, few_transfers g n 0 ok fits, course_count g g c n o, few_trailer_sectors g ok, few_units 16 (omega arith), few_units (max g.unit 4) (omega (arith, (small_unit g ok).1)))
+        let size = few_units (max g.unit 4) (omega (arith, (small_unit g ok).1)) in
+        omega (arith, is, whole, few_transfers g n 0 ok fits, course_count g g c n o, few_trailer_sectors g ok, few_units 16 (omega arith), size)
 
     pub few_at : (o : Opening) (k : ℕ) (op : Option Op) → op ≡ slice_get (list_from c g n o) k → IfSome op (λ _. k < 204000000)
-    few_at o k None is = tt
-    few_at o k (Some op) is = omega (arith, slice_get_within (list_from c g n o) k op (sym is), few_list o _ refl)
+    few_at o k it is = grind (arith, slice_get_within, few_list)
 
 -- whatever the size is that it writes
 pub same_length : (c : Grain) (g : Geometry) (n a b : ℕ) → length (new_list c g kinds.Test a n) ≡ length (new_list c g kinds.Test b n)
-same_length c g n a b = grind (arith, length-append, length-size, length-magic)
+same_length c g n a b = grind (arith, length-append, length-size)

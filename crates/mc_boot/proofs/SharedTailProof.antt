@@ -76,22 +76,6 @@ first_is : (x : PowerOn) (u : Content) → at x 0 ≡ Some u → x.content ≡ u
 unfolding at
 first_is x u is = cc
 
--- Before its first operation a boot has changed nothing.
-pub tail_shared_here : (from : PowerOn) (u : Content) (cut : Boot) (whole : Report) (x : SharedTail) → IsCut from u cut whole
-    → cut.done ≡ 0 → x.kept ≡ 0 → x.erases ≡ 0 → IsSharedTail from u x
-tail_shared_here from u cut whole x is none kept erases = record {
-  width = omega (arith, kept, ap (λ (t : Content). length (ops_of (again from t))) stays_here);
-  at_most = omega (arith, erases);
-  same = λ i lt.
-      ap (λ (t : Content). at (again from t) i) (sym stays_here)
-      ∙ ap (at from) (let index = placed_beyond x i (omega (arith, erases)) in omega (arith, index, kept));
-  within = λ i lt.
-      omega (arith, placed_beyond x i (omega (arith, erases)), kept, lt, ap (λ (t : Content). length (ops_of (again from t))) stays_here);
-}
-  where
-    stays_here : from.content ≡ u
-    stays_here = first_is from u (sym (ap (at from) none) ∙ come_at from (progress cut) u is.come)
-
 module _ (from : PowerOn) (u : Content) (cut next : Boot) (a b : Course) (whole : Report) (x : SharedTail) where
   module _ (is : IsCut from u cut whole) (at_a : cut.course ≡ Some a) (at_b : next.course ≡ Some b) (of : IsBootOf from.geometry next) where
     module _ (start : progress next ≡ begun from.rules (plan (again from u))) (ok : IsLayout b.layout) (found : kept_of a cut.done b ≡ Some x.kept)

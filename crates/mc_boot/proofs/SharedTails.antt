@@ -32,14 +32,10 @@ module _ (from : PowerOn) (u : Content) (c j : ℕ) (es : List Sector) (joins : 
 
   ops_are : ops_of (again from u) ≡ map erase_of es ++ rest
   unfolding ops_of
-  ops_are =
-      happening_prefix from.geometry (plan (again from u)).list (length es) u (blank from.geometry es u)
-      (ap (λ (xs : List Op). applied from.geometry xs u) joins.erases ∙ erases_applied from.geometry es u)
-      ∙ ap (λ (xs : List Op). xs ++ rest) joins.erases
+  ops_are = grind (arith, happening_prefix, erases_applied)
 
   pub next_erases : length es ≤ length (ops_of (again from u))
-  next_erases =
-      omega (arith, ap (λ (xs : List Op). length xs) ops_are, length-append (map erase_of es) rest, length-map {A = Sector} {B = Op} es erase_of)
+  next_erases = grind (arith, ops_are, length-append, length-map)
 
   -- The boot that was cut leaves after j operations more what the next one's first operations make of another content.
   further : (i : ℕ) → at from (j + i) ≡ applied from.geometry (take i (ops_of (again from u))) met.from
@@ -58,9 +54,7 @@ module _ (from : PowerOn) (u : Content) (c j : ℕ) (es : List Sector) (joins : 
 
   -- Among the erases.
   erased_some : (x : Content) (i : ℕ) → i ≤ length es → applied from.geometry (take i (ops_of (again from u))) x ≡ Some (blank from.geometry (take i es) x)
-  erased_some x i at_most =
-      ap (λ (xs : List Op). applied from.geometry xs x) (ap (take i) ops_are ∙ take_mapped erase_of es rest i at_most)
-      ∙ erases_applied from.geometry (take i es) x
+  erased_some x i at_most = grind (arith, ops_are, take_mapped, erases_applied)
 
   next_at : (i : ℕ) → i ≤ length es → at (again from u) i ≡ Some (blank from.geometry (take i es) u)
   unfolding at
@@ -105,12 +99,10 @@ module _ (from : PowerOn) (u : Content) (c j : ℕ) (es : List Sector) (joins : 
     was : u ≡ blank from.geometry (take (c - j) es) met.from
     was =
         let index : j + (c - j) ≡ c = (let p = joins.passed in omega (arith, p)) in
-        same_content u (blank from.geometry (take (c - j) es) met.from)
-        (sym joins.cut ∙ ap (at from) (sym index) ∙ further_at (c - j) (omega (arith, within)))
+        grind (arith, same_content, blank, further_at)
 
     are_erased : AreErased from.geometry (take (c - j) es) u
-    are_erased =
-        subst (AreErased from.geometry (take (c - j) es)) (sym was) (blank_erased from.geometry (take (c - j) es) met.from (fits_some (c - j) met.from met.fits))
+    are_erased = grind (arith, was, blank_erased, fits_some)
 
     -- The cut lay among the erases, or before them.
     pub among : (i : ℕ) → i < length es → at (again from u) i ≡ at from (max c (j + i))
@@ -136,12 +128,4 @@ module _ (from : PowerOn) (u : Content) (c j : ℕ) (es : List Sector) (joins : 
       let fit = fits_some i u fits in
       let parts : es ≡ take i es ++ drop i es = sym (take-append-drop i es) in
       let left : Fit from.geometry (drop i es) (blank from.geometry (take i es) u) = fit_blanked from.geometry (take i es) (drop i es) u fit (fit_beyond from.geometry es u i fits) in
-      let same : blank from.geometry es u ≡ blank from.geometry (take i es) u =
-      ap (λ xs. blank from.geometry xs u) parts
-      ∙ blank_append from.geometry (take i es) (drop i es) u
-      ∙ blank_noop from.geometry (drop i es) (blank from.geometry (take i es) u) left (blank_stays from.geometry (drop i es) (take i es) u fit are) in
-      let all : take (length es) es ≡ es = take-length es in
-      next_at i at_most
-      ∙ ap (λ x. Some x) (sym same ∙ met.alike)
-      ∙ ap (λ xs. Some (blank from.geometry xs met.from)) (sym all)
-      ∙ sym (further_at (length es) (omega arith))
+      grind (arith, blank, blank_append, blank_noop, blank_stays, take-length, next_at, at_most, further_at)

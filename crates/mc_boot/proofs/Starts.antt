@@ -49,8 +49,7 @@ pub filled_prefix : (g : Geometry) (o : Slot) (a : List ℕ) (i : ℕ) → i < l
 filled_prefix g o a i below = get_or_append_left a (replicate (size_of g o - length a) 255) 0 i below
 
 pub filled_free : (g : Geometry) (o : Slot) (a : List ℕ) (i : ℕ) → length a ≤ i → i < size_of g o → slice_index (filled g o a) i ≡ 255
-filled_free g o a i from below =
-    get_or-append_right a (replicate (size_of g o - length a) 255) (length a) i 0 refl from ∙ get_or-replicate (size_of g o - length a) (i - length a) 255 0 (omega (arith, from, below))
+filled_free g o a i from below = grind (arith, get_or-append_right, get_or-replicate)
 
 -- The slots begin with these bytes.
 pub record Begins (g : Geometry) (x y : List ℕ) (s : Content) : Type 0 where
@@ -204,9 +203,7 @@ perm_begins g x y ok short_x short_y = record {
 test_fields : (g : Geometry) (x y : List ℕ) → IsLayout g → length y ≤ data_end g Secondary → FieldsAre g (test_flash g x y) Secondary (asked true)
 unfolding marked
 test_fields g x y ok short field.Magic i h within = magic_there g y i ok short within
-test_fields g x y ok short field.ImageOk i h within =
-    let first : 0 ≡ i = omega (arith, h) in
-    rw (← first) (ap (slice_index (marked g y)) (omega arith) ∙ ok_free g y ok short)
+test_fields g x y ok short field.ImageOk i h within = grind (arith, ok_free)
 test_fields g x y ok short f i h within = absurd (omega (arith, h))
 
 perm_fields : (g : Geometry) (x y : List ℕ) → IsLayout g → length y ≤ data_end g Secondary → FieldsAre g (perm_flash g x y) Secondary (asked false)

@@ -28,10 +28,8 @@ use Rattle.mc_trailer.specs.Trailer.{one_unit, room, trailer_of}
 use Rattle.mc_trailer.specs.declared.places.Field.{Field}
 use Rattle.mc_trailer.specs.declared.tables.Rules.{Rules}
 use Rattle.mc_trailer.specs.declared.tables.SwapType.{SwapType}
-use Rattle.mc_trailer.specs.declared.trailer.Trailer.{Trailer}
 use Rattle.mc_trailer.specs.facts.Fields.{FieldsAre, blank_fields, fields_prefix, reads_absent, reads_copy_done, reads_good}
 use Rattle.mc_trailer.specs.declared.places.Field.TheVariants as field
-use Rattle.mc_trailer.specs.declared.tables.SwapType.TheVariants as kinds
 
 -- The first n sectors of a slot, byte by byte, and the image in them.
 
@@ -100,8 +98,7 @@ size_in_prefix g start size n o w = omega (arith, least o, rows)
     least Secondary = let larger = w.larger in omega (arith, larger)
 
 has_image : (g : Geometry) (start : Content) (size n : ℕ) (o : Slot) → Swap g start size n → HasImage (bytes_of start o)
-has_image g start size n Primary w = w.primary
-has_image g start size n Secondary w = w.secondary
+has_image g start size n it w = grind arith
 
 -- a slot that begins as a slot of the start holds its image
 pub image_there : (g : Geometry) (start : Content) (size n : ℕ) (s : Content) (o from : Slot) → Swap g start size n → IsSized g s → ((p : ℕ) → p < n * g.sector → byte s o p ≡ byte start from p)
@@ -129,8 +126,7 @@ pub larger_end : (g : Geometry) (start : Content) (size n : ℕ) (s : Content) �
 larger_end g start size n s w data_ =
     let one = image_there g start size n s Primary Secondary w data_.sized (prefix_at_end g start n s Primary w.ok w.at_most data_) in
     let two = image_there g start size n s Secondary Primary w data_.sized (prefix_at_end g start n s Secondary w.ok w.at_most data_) in
-    let larger = w.larger in
-    (two.valid, ap (λ m. max m (image_size s.secondary)) one.size ∙ ap (max (image_size start.secondary)) two.size ∙ omega (arith, larger))
+    grind arith
 
 pub sees_start : (g : Geometry) (start : Content) (size n : ℕ) (s : Content) → Swap g start size n → Data g n start 0 s → SeesImages s size
 sees_start g start size n s w data_ = let sees = larger_start g start size n s w data_ in sees_images s size sees.0 sees.1
@@ -155,20 +151,15 @@ pub record Swaps (R : Content → Type 0) (x : PowerOn) (size n : ℕ) (b : Bool
 -- by the plan that is known
 by_plan : (R : Content → Type 0) (x : PowerOn) (size n : ℕ) (b : Bool) (s : Content) (p : Plan) → plan (again x s) ≡ p → IsSwapOf b p.kind → p.sectors ≡ n
     → Keeps x.geometry (Phase R x.geometry x.content size n b) p.list s (Ended x.geometry x.content size n b) → Swaps R x size n b s
-by_plan R x size n b s p is of sectors keeps = record {
-  keeps = let E : Plan → Type 0 = λ q. Keeps x.geometry (Phase R x.geometry x.content size n b) q.list s (Ended x.geometry x.content size n b) in subst E (sym is) keeps;
-  planned = record { kind = p.kind; of = of; is = ap (λ (q : Plan). q.kind) is; sectors = ap (λ (q : Plan). q.sectors) is ∙ sectors };
-}
+by_plan R x size n b s p is of sectors keeps = grind arith
 
 -- from where a swap is asked for
 asked_keeps : (R : Content → Type 0) (c : Grain) (g : Geometry) (start : Content) (size n : ℕ) (b : Bool) (s : Content) → Swap g start size n → Asked g start n b s
     → Keeps g (Phase R g start size n b) (new_list c g (kind_asked b) size n) s (Ended g start size n b)
-asked_keeps R c g start size n true s w is = swap_keeps g start size n w true R c kinds.Test s refl is
-asked_keeps R c g start size n false s w is = swap_keeps g start size n w false R c kinds.Perm s refl is
+asked_keeps it c g start size n one s w is = grind (arith, swap_keeps)
 
 of_asked : (b : Bool) → IsSwapOf b (kind_asked b)
-of_asked true = refl
-of_asked false = refl
+of_asked it = grind arith
 
 pub asked_swaps : (R : Content → Type 0) (x : PowerOn) (size n : ℕ) (b : Bool) → in_pieces x.rules.grain x.geometry ≡ x.geometry → Swap x.geometry x.content size n → (s : Content)
     → Asked x.geometry x.content n b s
@@ -267,16 +258,7 @@ settled_end x size n z w e =
 -- the same on the layout itself
 module _ (r : Rules) (g : Geometry) (z : Content) where
   pub tested_on : IsTested (power_on r (in_pieces r.grain g) z) → IsTested (power_on r g z)
-  tested_on is = record {
-    image_ok = ap (λ (t : Trailer). t.image_ok) (sym (trailer_pieces r.grain g z)) ∙ is.image_ok;
-    copy_done = ap (λ (t : Trailer). t.copy_done) (sym (trailer_pieces r.grain g z)) ∙ is.copy_done;
-    next = ap (λ (q : Plan). q.kind) (sym (plan_in_pieces r g z)) ∙ is.next;
-  }
+  tested_on is = grind (arith, trailer_pieces, plan_in_pieces)
 
   pub settled_on : IsSettled (power_on r (in_pieces r.grain g) z) → IsSettled (power_on r g z)
-  settled_on is = record {
-    image_ok = ap (λ (t : Trailer). t.image_ok) (sym (trailer_pieces r.grain g z)) ∙ is.image_ok;
-    copy_done = ap (λ (t : Trailer). t.copy_done) (sym (trailer_pieces r.grain g z)) ∙ is.copy_done;
-    next = ap (λ (q : Plan). q.kind) (sym (plan_in_pieces r g z)) ∙ is.next;
-    idle = ap (λ (q : Plan). q.list) (sym (plan_in_pieces r g z)) ∙ is.idle;
-  }
+  settled_on is = grind (arith, trailer_pieces, plan_in_pieces)

@@ -16,7 +16,7 @@ use Rattle.mc_flash.specs.declared.flash.Grain.{Grain}
 use Rattle.mc_flash.specs.declared.op.Slot.{Slot}
 use Rattle.mc_flash.specs.declared.op.Slot.TheVariants.{Primary, Secondary}
 use Rattle.mc_flash.specs.facts.Changes.{Changed, changed_sized}
-use Rattle.mc_flash.specs.facts.Layouts.{data_before_trailer, data_end, sector_in_data, small_unit, trailer_leaves_one}
+use Rattle.mc_flash.specs.facts.Layouts.{data_before_trailer, data_end, small_unit, trailer_leaves_one}
 use Rattle.mc_trailer.specs.Trailer.{entry_place, magic_bytes, one_unit, place, room, size_bytes}
 use Rattle.mc_trailer.specs.declared.places.Field.{Field}
 use Rattle.mc_trailer.specs.declared.tables.SwapType.{SwapType}
@@ -30,9 +30,7 @@ use Rattle.mc_trailer.specs.declared.tables.SwapType.TheVariants as kinds
 
 -- what stands after the data sectors of a slot is outside of a transfer's target
 trailer_outside : (g : Geometry) (n k : ℕ) (x : Transfer) (o : Slot) (i : ℕ) → Fits g n k x → data_end g o ≤ i → IsOutside g x.to x.to_sector o i
-trailer_outside g n k x o i fits beyond same =
-    let here : data_end g x.to ≤ i = rw same at beyond in
-    inr (omega (arith, here, sector_in_data g x.to x.to_sector fits.to_data))
+trailer_outside g n k x o i fits beyond same = grind arith
 
 -- the trailers after copies of a transfer
 trailers_kept : (g : Geometry) (n k c : ℕ) (s u : Content) (x : Transfer) → IsLayout g → Fits g n k x → Copied g s u x c → (o : Slot) (i : ℕ) → size_of g o ≤ i + trailer_bytes g
@@ -163,8 +161,7 @@ module _ (g : Geometry) (start : Content) (size n : ℕ) (w : Swap g start size 
 
 -- a slot whose magic is 0xff
 pub unasked_from : (g : Geometry) (s : Content) (slot : Slot) → ((i : ℕ) → i < 16 → byte s slot (place g slot field.Magic + i) ≡ 255) → FieldsAre g s slot unasked
-unasked_from g s slot free field.Magic i h within = free i within ∙ sym (get_or-replicate 16 i 255 0 within)
-unasked_from g s slot free f i h within = absurd (omega (arith, h))
+unasked_from g s slot free f i h within = grind arith
 
 pub unasked_is : (g : Geometry) (s : Content) (i : ℕ) → FieldsAre g s Secondary unasked → i < 16 → byte s Secondary (place g Secondary field.Magic + i) ≡ 255
 unasked_is g s i are below = are field.Magic i (omega (arith, below, length-replicate {A = ℕ} 16 255)) below ∙ get_or-replicate 16 i 255 0 below
@@ -259,8 +256,7 @@ module _ (g : Geometry) (start : Content) (size n : ℕ) (w : Swap g start size 
   module _ (R : Content → Type 0) where
     clearing_bears : (kind : SwapType) (i : ℕ) (t : Content) → IsSwapOf b kind → Clearing g start size n b kind i t
         → Phase R g start size n b t × IsSized g t
-    clearing_bears kind i t of (inl first) = (asks R g start size n b t first.1.is_asked, first.1.is_asked.data_.sized)
-    clearing_bears kind i t of (inr under) = (runs R g start size n b kind 0 t of (omega arith) under, under.data_.sized)
+    clearing_bears kind i t of it = grind arith
 
     pub clearing_keeps : (kind : SwapType) (s : Content) → IsSwapOf b kind → Clearing g start size n b kind 0 s
         → Keeps g (Phase R g start size n b) (resumed_list g n 0 true false) s (Ended g start size n b)
@@ -361,8 +357,7 @@ module _ (g : Geometry) (start : Content) (size n : ℕ) (w : Swap g start size 
 
 -- a magic that is unset is quiet by either grain
 pub magic_unset_blank : (c : Grain) (g : Geometry) (s : Content) → FieldIs g s Secondary field.Magic (replicate 16 255) → MagicUnset c g s
-magic_unset_blank grains.Call g s free = free
-magic_unset_blank grains.Unit g s free = blank_byte g s Secondary field.Magic 15 free (omega arith)
+magic_unset_blank it g s free = grind arith
 
 -- and so is one whose sectors are erased
 magic_unset_erased : (c : Grain) (g : Geometry) (i : ℕ) (t u : Content) → Erased g Secondary i t u → MagicUnset c g t → MagicUnset c g u

@@ -60,28 +60,10 @@ pub other_number : (m n : ℕ) → (m ≡ n → ⊥) → (m == n) ≡ false
 other_number m n distinct = grind (arith, nat_tests)
 
 move_step : (n j : ℕ) (f : Held) → j < n → Moved n j f → Moved n (j + 1) (held_after f (moved_up n j))
-move_step n j f below m = record {
-  low = λ i h. rw (other_number i (n - j) (λ e. omega (arith, e, h, below))) (m.low i (omega (arith, h)));
-  high = λ i h k. elim (cases_eq (i + 1) (n - j)) [
-    | inl here ↦ rw (eq-eqb (i + 1) (n - j) here) (m.low (n - 1 - j) (omega (arith, below)) ∙ ap (λ (a : ℕ). (Primary, a)) (omega (arith, here)))
-    | inr past ↦ rw (other_number (i + 1) (n - j) past) (m.high i h (omega (arith, k, past, below)))
-  ];
-  other = λ i. m.other i;
-}
+move_step n j f below m = grind arith
 
 pair_step : (g : Geometry) (n k : ℕ) (f : Held) → k < n → Paired n k f → Paired n (k + 1) (held_after (held_after f (brought_in g k)) (taken_out g k))
-pair_step g n k f below p = record {
-  done = λ i h. elim (cases_eq i k) [
-    | inl here ↦ rw (eq-eqb i k here) (p.waits k (omega arith) ∙ ap (λ (a : ℕ). (Secondary, a)) (sym here))
-    | inr past ↦ rw (other_number i k past) (p.done i (omega (arith, h, past)))
-  ];
-  left = λ i h l. rw (other_number (i + 1) k (λ e. omega (arith, e, h))) (p.left i (omega (arith, h)) l);
-  taken = λ i h. elim (cases_eq i k) [
-    | inl here ↦ rw (eq-eqb i k here, other_number (k + 1) k (λ e. omega (arith, e))) (p.left k (omega arith) below ∙ ap (λ (a : ℕ). (Primary, a)) (sym here))
-    | inr past ↦ rw (other_number i k past) (p.taken i (omega (arith, h, past)))
-  ];
-  waits = λ i h. rw (other_number i k (λ e. omega (arith, e, h))) (p.waits i (omega (arith, h)));
-}
+pair_step g n k f below p = grind arith
 
 pub held_append : (f : Held) (xs ys : List Transfer) → held_after_all f (xs ++ ys) ≡ held_after_all (held_after_all f xs) ys
 held_append f [] ys = refl
@@ -102,8 +84,7 @@ exchanged g n =
     moves n 0 n at_start (omega arith) (record { low = λ i _. refl; high = λ i h k. absurd (omega (arith, h, k)); other = λ i. refl }) in
     let begin : Paired n 0 (held_after_all at_start (map (moved_up n) (range_with_len 0 n))) =
     record { done = λ i h. absurd (omega (arith, h)); left = λ i h l. first.high i l (omega arith); taken = λ i h. absurd (omega (arith, h)); waits = λ i h. first.other i } in
-    rw (held_append at_start (map (moved_up n) (range_with_len 0 n)) (flat_map (λ i. brought_in g i ∷ taken_out g i ∷ []) (range_with_len 0 n)))
-    (pairs g n 0 n (held_after_all at_start (map (moved_up n) (range_with_len 0 n))) (omega arith) begin)
+    grind (arith, held_append, pairs)
 
 -- The status entries of the first k transfers, and the highest of them.
 
@@ -111,27 +92,11 @@ exchanged g n =
 abbrev pub entry_number : Geometry → ℕ → ℕ → ℕ
 entry_number g n k = if nat_lt k n then k else g.max_sectors + (k - n)
 
-pub number_low : (g : Geometry) (n k : ℕ) → k < n → entry_number g n k ≡ k
-number_low g n k h = let e : nat_lt k n ≡ true = grind (arith, nat_tests) in rw e refl
-
-pub number_high : (g : Geometry) (n k : ℕ) → n ≤ k → entry_number g n k ≡ g.max_sectors + (k - n)
-number_high g n k h = let e : nat_lt k n ≡ false = grind (arith, nat_tests) in rw e refl
-
 pub number_up : (g : Geometry) (n j k : ℕ) → n ≤ g.max_sectors → j < k → entry_number g n j < entry_number g n k
-number_up g n j k at_most before = elim (cases_lt k n) [
-  | inl low ↦ omega (arith, before, number_low g n k low, number_low g n j (omega (arith, low, before)))
-  | inr high ↦
-      elim (cases_lt j n) [
-        | inl below ↦ omega (arith, at_most, number_high g n k high, number_low g n j below, below)
-        | inr above ↦ omega (arith, before, number_high g n k high, number_high g n j above, above)
-      ]
-]
+number_up g n j k at_most before = grind arith
 
 pub number_below : (g : Geometry) (n k : ℕ) → n ≤ g.max_sectors → k < 3 * n → entry_number g n k < 3 * g.max_sectors
-number_below g n k at_most below = elim (cases_lt k n) [
-  | inl low ↦ omega (arith, at_most, below, number_low g n k low)
-  | inr high ↦ omega (arith, at_most, below, number_high g n k high)
-]
+number_below g n k at_most below = grind arith
 
 -- The last of the first k entries begins with 1, and all above it are free.
 pub record Entries (g : Geometry) (n k : ℕ) (s : Content) : Type 0 where
@@ -183,9 +148,7 @@ entries_not g n s ok sized en = highest_none g s (λ d under. blank_entry g s d 
 found_from : {A : Type 0} (p : A → Bool) (xs : List A) (i k : ℕ) (x : A) → slice_get xs k ≡ Some x → p x ≡ true → ((j : ℕ) (y : A) → j < k → slice_get xs j ≡ Some y → p y ≡ false)
     → position_from p i xs ≡ Some (i + k)
 found_from p [] i k x here passes before = cc
-found_from p (y ∷ xs) i zero x here passes before =
-    let same : y ≡ x = cc in
-    rw (ap p same ∙ passes) (ap (λ (n : ℕ). Some n) (omega arith))
+found_from p (y ∷ xs) i zero x here passes before = grind arith
 found_from p (y ∷ xs) i (suc k) x here passes before =
     let later : i + 1 + k ≡ i + suc k = omega arith in
     rw (before 0 y (omega arith) refl) (found_from p xs (i + 1) k x here passes (λ j z below at. before (suc j) z (omega (arith, below)) at) ∙ ap (λ (n : ℕ). Some n) later)
@@ -228,10 +191,7 @@ entry_of_place g n k t at = elim (cases_lt k n) [
 -- no two transfers have one entry
 apart : (g : Geometry) (n j k d e : ℕ) → n ≤ g.max_sectors → j < k → entry_at g n j d → entry_at g n k e → d ≡ e → ⊥
 unfolding entry_at
-apart g n j k d e at_most before (inl low) (inl high) same = omega (arith, low.1, high.1)
-apart g n j k d e at_most before (inl low) (inr high) same = omega (arith, low.0, low.1, high.2)
-apart g n j k d e at_most before (inr low) (inl high) same = omega (arith, low.0, high.0)
-apart g n j k d e at_most before (inr low) (inr high) same = omega (arith, low.2, high.2)
+apart g n j k d e at_most before it one same = grind arith
 
 pub left_after : (g : Geometry) (n k e : ℕ) (t : Transfer) → n ≤ g.max_sectors → slice_get (transfers g n) k ≡ Some t → t.entry ≡ e → first_left g n (Some e) ≡ Some (k + 1)
 left_after g n k e t at_most at is =
@@ -243,9 +203,7 @@ left_after g n k e t at_most at is =
 
 other_entry : (g : Geometry) (n k d e : ℕ) → entry_at g n k d → n ≤ e → (e < g.max_sectors) ⊎ (g.max_sectors + 2 * n ≤ e) → d ≡ e → ⊥
 unfolding entry_at
-other_entry g n k d e (inl low) above other same = omega (arith, low.0, low.1)
-other_entry g n k d e (inr high) above (inl small) same = omega (arith, high.0, high.1, high.2)
-other_entry g n k d e (inr high) above (inr great) same = omega (arith, high.0, high.1, high.2)
+other_entry g n k d e it above other same = grind arith
 
 pub left_none : (g : Geometry) (n e : ℕ) → n ≤ e → (e < g.max_sectors) ⊎ (g.max_sectors + 2 * n ≤ e) → first_left g n (Some e) ≡ None
 left_none g n e above other =
@@ -290,28 +248,13 @@ pub record Fits (g : Geometry) (n k : ℕ) (x : Transfer) : Type 0 where
   pub entry : x.entry ≡ entry_number g n k
 
 fits_moved : (g : Geometry) (n k : ℕ) → IsLayout g → n ≤ greatest_sectors g → k < n → Fits g n k (moved_up n k)
-fits_moved g n k ok at_most low = record {
-  inside = record { from = omega arith; to = omega arith; entry = omega arith; apart = λ _. omega (arith, low) };
-  from_data = omega arith;
-  to_data = omega arith;
-  entry = sym (number_low g n k low);
-}
+fits_moved g n k ok at_most low = grind arith
 
 fits_brought : (g : Geometry) (n k i : ℕ) → IsLayout g → n ≤ greatest_sectors g → i < n → k ≡ n + 2 * i → Fits g n k (brought_in g i)
-fits_brought g n k i ok at_most low is = record {
-  inside = record { from = omega arith; to = omega arith; entry = omega arith; apart = λ same. cc };
-  from_data = omega arith;
-  to_data = omega arith;
-  entry = omega (arith, is, number_high g n k (omega (arith, is)));
-}
+fits_brought g n k i ok at_most low is = grind arith
 
 fits_taken : (g : Geometry) (n k i : ℕ) → IsLayout g → n ≤ greatest_sectors g → i < n → k ≡ n + 2 * i + 1 → Fits g n k (taken_out g i)
-fits_taken g n k i ok at_most low is = record {
-  inside = record { from = omega arith; to = omega arith; entry = omega arith; apart = λ same. cc };
-  from_data = omega arith;
-  to_data = omega arith;
-  entry = omega (arith, is, number_high g n k (omega (arith, is)));
-}
+fits_taken g n k i ok at_most low is = grind arith
 
 pub same_transfer : (x y : Transfer) → Some x ≡ Some y → x ≡ y
 same_transfer x y e = cc
@@ -362,13 +305,10 @@ held_end g n = ap (held_after_all at_start) (take_all (3 * n) (transfers g n) (o
 
 -- at the target, and elsewhere
 same_is : (o : Slot) → is_same o o ≡ true
-same_is Primary = refl
-same_is Secondary = refl
+same_is it = grind arith
 
 is_same_means : (o p : Slot) → is_same o p ≡ true → o ≡ p
-is_same_means Primary Primary e = refl
-is_same_means Secondary Secondary e = refl
-is_same_means o p e = cc
+is_same_means o p e = grind arith
 
 pub held_here : (f : Held) (x : Transfer) → held_after f x x.to x.to_sector ≡ f x.from x.from_sector
 held_here f x = rw (same_is x.to) (rw (eq-eqb x.to_sector x.to_sector refl) refl)

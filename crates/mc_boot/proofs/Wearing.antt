@@ -1,36 +1,30 @@
 -- The application's own work leaves bytes; a list of operations erases a sector at most twice.
-use Rattle.std.proofs.Common.{ap, arith, inl, inr, ◌∙◌}
-use Rattle.std.proofs.lemmas.Bool.{cases_eq, cases_lt}
+use Rattle.std.proofs.Common.{arith, inl, inr}
+use Rattle.std.proofs.lemmas.Bool.{cases_lt}
 use Rattle.std.proofs.lemmas.Bool.Decides.{nat_tests}
 use Rattle.std.proofs.lemmas.List.{get_or-replicate, get_or_past, length-replicate}
-use Rattle.std.specs.Int.{div_ceil}
 use Rattle.std.specs.List.{between, range_with_len}
-use Rattle.std.specs.Prelude.{Bool, List, None, Option, Some, [], drop, false, flat_map, if◌then◌else◌, is_none, length, map, nat_lt, not, refl, replicate, slice_index, suc, take, true, zero, ℕ, ◌*◌, ◌++◌, ◌+◌, ◌-◌, ◌/◌, ◌<◌, ◌==◌, ◌||◌, ◌∷◌, ◌≡◌, ◌≢◌, ◌≤◌, ◌⊎◌}
-use Rattle.mc_boot.proofs.Transfers.{other_number}
+use Rattle.std.specs.Prelude.{Bool, List, None, Option, Some, [], drop, false, flat_map, if◌then◌else◌, length, map, nat_lt, refl, replicate, slice_index, suc, take, true, zero, ℕ, ◌*◌, ◌++◌, ◌+◌, ◌-◌, ◌/◌, ◌<◌, ◌==◌, ◌||◌, ◌∷◌, ◌≡◌, ◌≤◌, ◌⊎◌}
 use Rattle.mc_boot.specs.Life.{AreSecondary, WearLaw, WorkLaw, all_erases, erases}
 use Rattle.mc_boot.specs.Outcome.{first_then, happening, ops_of}
-use Rattle.mc_boot.specs.Plan.{Plan, PowerOn, brought_in, closing, confirms, copy_of, first_left, from_transfer, images_of, is_revert, marking, moved_up, new_list, new_plan, new_swap, nothing, opening_writes, piece, plan, plan_with, preparation_writes, resumed_from, resumed_list, resumed_plan, resumed_swap, steps, swap_list, taken_out, trailer_erase, trailer_erases, transfers, write}
+use Rattle.mc_boot.specs.Plan.{Plan, PowerOn, brought_in, closing, copy_of, from_transfer, is_revert, marking, moved_up, new_list, new_plan, new_swap, nothing, opening_writes, plan, plan_with, preparation_writes, resumed_from, resumed_list, resumed_plan, resumed_swap, steps, swap_list, taken_out, trailer_erases, transfers, write}
 use Rattle.mc_boot.specs.declared.image.Images.{Images}
 use Rattle.mc_boot.specs.declared.transfer.Transfer.{Transfer}
 use Rattle.mc_flash.specs.Flash.{Content, IsSized, apply, erased, in_slot, is_blank, put, size_of, with_bytes}
-use Rattle.mc_flash.specs.Geometry.{Geometry, IsLayout, greatest_sectors, in_pieces, trailer_sectors}
+use Rattle.mc_flash.specs.Geometry.{Geometry, IsLayout, greatest_sectors}
 use Rattle.mc_flash.specs.declared.flash.Grain.{Grain}
 use Rattle.mc_flash.specs.declared.op.Op.{Op}
 use Rattle.mc_flash.specs.declared.op.Op.TheVariants.{Copy, Erase, Program}
 use Rattle.mc_flash.specs.declared.op.Slot.{Slot}
 use Rattle.mc_flash.specs.declared.op.Slot.TheVariants.{Primary, Secondary}
 use Rattle.mc_flash.specs.facts.Changes.{length-put, put_before, put_beyond, put_inside, same_content}
-use Rattle.mc_flash.specs.facts.Layouts.{data_sectors, sector_inside, trailer_leaves_one}
+use Rattle.mc_flash.specs.facts.Layouts.{data_sectors, sector_inside}
 use Rattle.mc_flash.specs.facts.Pieces.{pieces_layout}
 use Rattle.mc_image.specs.Image.{IsBytes}
-use Rattle.mc_trailer.specs.Tables.{is_resumed, table_of}
-use Rattle.mc_trailer.specs.Trailer.{highest_entry, place, trailer_of}
 use Rattle.mc_trailer.specs.declared.places.Field.{Field}
 use Rattle.mc_trailer.specs.declared.tables.SwapType.{SwapType}
 use Rattle.mc_trailer.specs.declared.trailer.Flag.{Flag}
 use Rattle.mc_trailer.specs.declared.trailer.Trailer.{Trailer}
-use Rattle.mc_boot.proofs.Courses.{greatest_pieces}
-use Rattle.mc_flash.specs.declared.flash.Grain.TheVariants as grains
 use Rattle.mc_trailer.specs.declared.tables.SwapType.TheVariants as kinds
 
 -- The work of a running image on the secondary leaves bytes there.
@@ -52,16 +46,11 @@ put_bytes xs new at fits old fresh i = elim (cases_lt i at) [
         rw (← is) (omega (arith, same, small))
 
 pub erased_bytes : (n : ℕ) → IsBytes (replicate n 255)
-erased_bytes n i = elim (cases_lt i n) [
-  | inl low ↦ let same : slice_index (replicate n 255) i ≡ 255 = get_or-replicate n i 255 0 low in omega (arith, same)
-  | inr high ↦ let same : slice_index (replicate n 255) i ≡ 0 = get_or_past (replicate n 255) i 0 (omega (arith, high, length-replicate {A = ℕ} n 255)) in omega (arith, same)
-]
+erased_bytes n i = grind (arith, get_or-replicate, get_or_past, length-replicate)
 
 -- the bytes of the slot with others in their place
 stored : (g : Geometry) (s : Content) (at : ℕ) (new : List ℕ) → IsSized g s → IsBytes s.secondary → IsBytes new → at + length new ≤ size_of g Secondary → AreSecondary g (put s.secondary at new)
-stored g s at new sized old fresh inside =
-    let fits : at + length new ≤ length s.secondary = omega (arith, inside, sized.secondary) in
-    record { sized = length-put s.secondary new at fits ∙ sized.secondary; numbers = put_bytes s.secondary new at fits old fresh }
+stored g s at new sized old fresh inside = grind (arith, length-put, put_bytes)
 
 pub work_law : WorkLaw
 unfolding apply
@@ -89,17 +78,10 @@ abbrev count : Bool → ℕ
 count b = if b then 1 else 0
 
 hit : (b : Bool) → (count b ≡ 0) ⊎ (count b ≡ 1)
-hit true = inr refl
-hit false = inl refl
-
-missed : (i k : ℕ) → i ≢ k → count (i == k) ≡ 0
-missed i k other = ap count (other_number i k other)
+hit it = grind arith
 
 here : (i k : ℕ) → count (i == k) ≡ 1 → i ≡ k
-here i k is = elim (cases_eq i k) [
-  | inl same ↦ same
-  | inr other ↦ absurd (let no_ = missed i k other in omega (arith, no_, is))
-]
+here i k is = grind arith
 
 -- ---- lists, for a slot o and a sector k of it
 
@@ -150,8 +132,7 @@ module _ (o : Slot) (k : ℕ) where
   -- ---- the sections of a course
 
   written : (c : Grain) (l : Geometry) (slot : Slot) (f : Field) (new : List ℕ) → W (write c l slot f new) ≡ 0
-  written grains.Call l slot f new = refl
-  written grains.Unit l slot f new = none_of (piece l slot (place l slot f) new) (range_with_len 0 (length new / l.unit)) (λ i. refl)
+  written it l slot f new = grind (arith, none_of)
 
   marked : (c : Grain) (l : Geometry) (slot : Slot) (size : ℕ) → W (marking c l slot size) ≡ 0
   marked c l slot size =
@@ -164,8 +145,7 @@ module _ (o : Slot) (k : ℕ) where
   opened c l kind size = grind (arith, marked c l Primary size)
 
   closed : (l : Geometry) (image_ok : Bool) → W (closing l image_ok) ≡ 0
-  closed l true = refl
-  closed l false = refl
+  closed l it = grind arith
 
   -- the transfers, by their targets
   abbrev target : Transfer → Op
@@ -198,76 +178,34 @@ module _ (o : Slot) (k : ℕ) where
 
   all_targets : (l : Geometry) (n : ℕ) → W (map target (transfers l n))
       ≡ W (map (λ j. Erase Primary (n - j)) (range_with_len 0 n)) + (W (map (λ i. Erase Primary i) (range_with_len 0 n)) + W (map (λ i. Erase Secondary i) (range_with_len 0 n)))
-  all_targets l n =
-      omega (arith, targets-append, moved, crossed l)
+  all_targets l n = grind (arith, targets-append, moved, crossed)
 
 -- at most twice in the primary, once in the secondary, and none after the image
 twice : (k : ℕ) (l : Geometry) (n : ℕ) → all_erases Primary k (map (target Primary k) (transfers l n)) ≤ 2
-twice k l n =
-    let up = once Primary k (λ j. Erase Primary (n - j)) 0 n
-    (λ i j less below one two. let p = here (n - i) k one in let q = here (n - j) k two in omega (arith, less, below, p, q)) in
-    let bring = once Primary k (λ i. Erase Primary i) 0 n (λ i j less below one two. let p = here i k one in let q = here j k two in omega (arith, less, p, q)) in
-    let out = none_of Primary k (λ i. Erase Secondary i) (range_with_len 0 n) (λ i. refl) in
-    omega (arith, all_targets Primary k l n, up, bring, out)
+twice k l n = grind (arith, once, none_of, all_targets)
 
 twice_at : (o : Slot) (k : ℕ) (l : Geometry) (n : ℕ) → all_erases o k (map (target o k) (transfers l n)) ≤ 2
-twice_at Primary k l n = twice k l n
-twice_at Secondary k l n =
-    let up = none_of Secondary k (λ j. Erase Primary (n - j)) (range_with_len 0 n) (λ i. refl) in
-    let bring = none_of Secondary k (λ i. Erase Primary i) (range_with_len 0 n) (λ i. refl) in
-    let out = once Secondary k (λ i. Erase Secondary i) 0 n (λ i j less below one two. let p = here i k one in let q = here j k two in omega (arith, less, p, q)) in
-    omega (arith, all_targets Secondary k l n, up, bring, out)
+twice_at it k l n = grind (arith, twice, none_of, once, all_targets)
 
 -- and none where a trailer is
 none_beyond : (o : Slot) (k : ℕ) (l : Geometry) (n : ℕ) → IsLayout l → n ≤ greatest_sectors l → data_sectors l o ≤ k → all_erases o k (map (target o k) (transfers l n)) ≡ 0
-none_beyond Primary k l n ok at_most beyond =
-    let leaves = trailer_leaves_one l Primary ok in
-    let room : n < k = omega (arith, at_most, beyond, leaves) in
-    let up = none_in Primary k (λ j. Erase Primary (n - j)) 0 n (λ i from below. missed (n - i) k (λ e. omega (arith, e, room))) in
-    let bring = none_in Primary k (λ i. Erase Primary i) 0 n (λ i from below. missed i k (λ e. omega (arith, e, room, below))) in
-    let out = none_of Primary k (λ i. Erase Secondary i) (range_with_len 0 n) (λ i. refl) in
-    omega (arith, all_targets Primary k l n, up, bring, out)
-none_beyond Secondary k l n ok at_most beyond =
-    let room : n ≤ k = omega (arith, at_most, beyond) in
-    let up = none_of Secondary k (λ j. Erase Primary (n - j)) (range_with_len 0 n) (λ i. refl) in
-    let bring = none_of Secondary k (λ i. Erase Primary i) (range_with_len 0 n) (λ i. refl) in
-    let out = none_in Secondary k (λ i. Erase Secondary i) 0 n (λ i from below. missed i k (λ e. omega (arith, e, room, below))) in
-    omega (arith, all_targets Secondary k l n, up, bring, out)
+none_beyond it k l n ok at_most beyond = grind (arith, none_in, all_targets)
 
 -- a trailer: its own slot once, and not in front of it
 trailer_once : (o slot : Slot) (k : ℕ) (l : Geometry) → IsLayout l → all_erases o k (trailer_erases l slot) ≤ 1
-trailer_once Primary Primary k l ok =
-    let leaves = trailer_leaves_one l Primary ok in
-    once Primary k (trailer_erase l Primary) 0 (trailer_sectors l)
-    (λ i j less below one two. let p = here (l.primary - 1 - i) k one in let q = here (l.primary - 1 - j) k two in omega (arith, less, below, leaves, p, q))
-trailer_once Secondary Secondary k l ok =
-    let leaves = trailer_leaves_one l Secondary ok in
-    once Secondary k (trailer_erase l Secondary) 0 (trailer_sectors l)
-    (λ i j less below one two. let p = here (l.secondary - 1 - i) k one in let q = here (l.secondary - 1 - j) k two in omega (arith, less, below, leaves, p, q))
-trailer_once Primary Secondary k l ok = let none = none_of Primary k (trailer_erase l Secondary) (range_with_len 0 (trailer_sectors l)) (λ i. refl) in omega (arith, none)
-trailer_once Secondary Primary k l ok = let none = none_of Secondary k (trailer_erase l Primary) (range_with_len 0 (trailer_sectors l)) (λ i. refl) in omega (arith, none)
+trailer_once it one k l ok = grind (arith, once)
 
 trailer_beyond : (o slot : Slot) (k : ℕ) (l : Geometry) → IsLayout l → k < data_sectors l o → all_erases o k (trailer_erases l slot) ≡ 0
-trailer_beyond Primary Primary k l ok prefix =
-    none_in Primary k (trailer_erase l Primary) 0 (trailer_sectors l) (λ i from below. missed (l.primary - 1 - i) k (λ e. omega (arith, e, prefix, below)))
-trailer_beyond Secondary Secondary k l ok prefix =
-    none_in Secondary k (trailer_erase l Secondary) 0 (trailer_sectors l) (λ i from below. missed (l.secondary - 1 - i) k (λ e. omega (arith, e, prefix, below)))
-trailer_beyond Primary Secondary k l ok prefix = none_of Primary k (trailer_erase l Secondary) (range_with_len 0 (trailer_sectors l)) (λ i. refl)
-trailer_beyond Secondary Primary k l ok prefix = none_of Secondary k (trailer_erase l Primary) (range_with_len 0 (trailer_sectors l)) (λ i. refl)
+trailer_beyond it one k l ok prefix = grind (arith, none_in)
 
 other_trailer : (o : Slot) (k : ℕ) (l : Geometry) → IsLayout l → all_erases o k (trailer_erases l Primary) + 2 * all_erases o k (trailer_erases l Secondary) ≤ 2
-other_trailer Primary k l ok = let none = none_of Primary k (trailer_erase l Secondary) (range_with_len 0 (trailer_sectors l)) (λ i. refl) in omega (arith, none, trailer_once Primary Primary k l ok)
-other_trailer Secondary k l ok =
-    let none = none_of Secondary k (trailer_erase l Primary) (range_with_len 0 (trailer_sectors l)) (λ i. refl) in omega (arith, none, trailer_once Secondary Secondary k l ok)
+other_trailer it k l ok = grind (arith, none_of, trailer_once)
 
 -- ---- courses
 
 module _ (o : Slot) (k : ℕ) (l : Geometry) (n : ℕ) (ok : IsLayout l) (at_most : n ≤ greatest_sectors l) where
   together : all_erases o k (trailer_erases l Primary) + 2 * all_erases o k (trailer_erases l Secondary) + all_erases o k (map (target o k) (transfers l n)) ≤ 2
-  together = elim (cases_lt k (data_sectors l o)) [
-    | inl prefix ↦ omega (arith, trailer_beyond o Primary k l ok prefix, trailer_beyond o Secondary k l ok prefix, twice_at o k l n)
-    | inr beyond ↦ omega (arith, other_trailer o k l ok, none_beyond o k l n ok at_most beyond)
-  ]
+  together = grind (arith, trailer_beyond, twice_at, other_trailer, none_beyond)
 
   from_some : (first : ℕ) (image_ok : Bool) → all_erases o k (from_transfer l n first image_ok) ≤ all_erases o k (map (target o k) (transfers l n))
   from_some first image_ok =
@@ -298,8 +236,7 @@ module _ (o : Slot) (k : ℕ) (l : Geometry) (n : ℕ) (ok : IsLayout l) (at_mos
 -- ---- plans
 
 chosen : (o : Slot) (k : ℕ) (b : Bool) (p q : Plan) → (b ≡ true → all_erases o k p.list ≤ 2) → (b ≡ false → all_erases o k q.list ≤ 2) → all_erases o k (if b then p else q).list ≤ 2
-chosen o k true p q yes_ no_ = yes_ refl
-chosen o k false p q yes_ no_ = no_ refl
+chosen o k it p q yes_ no_ = grind arith
 
 not_above : (n most : ℕ) (b : Bool) → (b || nat_lt most n) ≡ false → n ≤ most
 not_above n most b e = grind (arith, nat_tests, e)
@@ -309,11 +246,7 @@ module _ (o : Slot) (k : ℕ) (c : Grain) (g : Geometry) (ok : IsLayout g) where
   nothing_worn kind = omega arith
 
   new_swap_worn : (images : Images) (kind : SwapType) → all_erases o k (new_swap c g images kind).list ≤ 2
-  new_swap_worn images kind =
-      let n = div_ceil images.size g.sector in
-      chosen o k (not images.valid || nat_lt (greatest_sectors g) n) (nothing kinds.Fail) (record { kind = kind; sectors = n; list = new_list c (in_pieces c g) kind images.size n })
-      (λ _. nothing_worn kinds.Fail)
-      (λ e. new_twice o k (in_pieces c g) n (pieces_layout c g ok) (omega (arith, greatest_pieces c g, not_above n (greatest_sectors g) (not images.valid) e)) c kind images.size)
+  new_swap_worn images kind = grind (arith, new_twice, pieces_layout)
 
   new_plan_worn : (images : Images) (kind : SwapType) → all_erases o k (new_plan c g images kind).list ≤ 2
   new_plan_worn images kinds.Test = new_swap_worn images kinds.Test
@@ -323,37 +256,17 @@ module _ (o : Slot) (k : ℕ) (c : Grain) (g : Geometry) (ok : IsLayout g) where
 
   from_worn : (image_ok : Flag) (highest : Option ℕ) (kind : SwapType) (n : ℕ) (first : Option ℕ) → n ≤ greatest_sectors g
       → all_erases o k (resumed_from c g image_ok highest kind n first).list ≤ 2
-  from_worn image_ok highest kind n None at_most = omega arith
-  from_worn image_ok highest kind n (Some first) at_most =
-      resumed_twice o k (in_pieces c g) n (pieces_layout c g ok) (omega (arith, greatest_pieces c g, at_most)) first (is_none highest) (confirms kind image_ok)
+  from_worn image_ok highest kind n it at_most = grind (arith, resumed_twice, pieces_layout)
 
   resumed_swap_worn : (image_ok : Flag) (highest : Option ℕ) (kind : SwapType) (n : ℕ) → all_erases o k (resumed_swap c g image_ok highest kind n).list ≤ 2
-  resumed_swap_worn image_ok highest kind n =
-      chosen o k (n == 0 || nat_lt (greatest_sectors g) n) (nothing kinds.Panic) (resumed_from c g image_ok highest kind n (first_left g n highest))
-      (λ _. nothing_worn kinds.Panic)
-      (λ e. from_worn image_ok highest kind n (first_left g n highest) (not_above n (greatest_sectors g) (n == 0) e))
+  resumed_swap_worn image_ok highest kind n = grind (arith, chosen, nothing_worn, from_worn)
 
   resumed_plan_worn : (p : Trailer) (highest : Option ℕ) → all_erases o k (resumed_plan c g p highest).list ≤ 2
-  resumed_plan_worn p highest =
-      let n = div_ceil p.swap_size g.sector in
-      chosen o k (p.swap_info == 2) (resumed_swap c g p.image_ok highest kinds.Test n)
-      (if p.swap_info == 3 then resumed_swap c g p.image_ok highest kinds.Perm n
-      else if p.swap_info == 4 then resumed_swap c g p.image_ok highest kinds.Revert n
-      else nothing kinds.None)
-      (λ _. resumed_swap_worn p.image_ok highest kinds.Test n)
-      (λ _. chosen o k (p.swap_info == 3) (resumed_swap c g p.image_ok highest kinds.Perm n)
-      (if p.swap_info == 4 then resumed_swap c g p.image_ok highest kinds.Revert n else nothing kinds.None)
-      (λ _. resumed_swap_worn p.image_ok highest kinds.Perm n)
-      (λ _. chosen o k (p.swap_info == 4) (resumed_swap c g p.image_ok highest kinds.Revert n) (nothing kinds.None)
-      (λ _. resumed_swap_worn p.image_ok highest kinds.Revert n) (λ _. nothing_worn kinds.None)))
+  resumed_plan_worn p highest = grind (arith, resumed_swap_worn)
 
 plan_worn : (o : Slot) (k : ℕ) (x : PowerOn) → IsLayout x.geometry → all_erases o k (plan x).list ≤ 2
 unfolding plan plan_with
-plan_worn o k x ok =
-    chosen o k (is_resumed x.geometry x.content) (resumed_plan x.rules.grain x.geometry (trailer_of x.geometry x.content Primary) (highest_entry x.geometry x.content))
-    (new_plan x.rules.grain x.geometry (images_of x.content) (table_of x.rules.profile x.geometry x.content))
-    (λ _. resumed_plan_worn o k x.rules.grain x.geometry ok (trailer_of x.geometry x.content Primary) (highest_entry x.geometry x.content))
-    (λ _. new_plan_worn o k x.rules.grain x.geometry ok (images_of x.content) (table_of x.rules.profile x.geometry x.content))
+plan_worn o k x ok = grind (arith, resumed_plan_worn, new_plan_worn)
 
 -- those that happen
 happen_less : (o : Slot) (k : ℕ) (g : Geometry) (ops : List Op) (s : Content) → all_erases o k (happening g ops s) ≤ all_erases o k ops

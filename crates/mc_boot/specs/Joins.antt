@@ -3,7 +3,7 @@ use Rattle.std.specs.Bool.{beq}
 use Rattle.std.specs.Prelude.{Bool, None, Option, Some, false, if◌then◌else◌, length, nat_le, not, option_and_then, true, ℕ, ◌&&◌, ◌*◌, ◌+◌, ◌-◌, ◌/◌, ◌<◌, ◌==◌, ◌||◌, ◌≡◌}
 use Rattle.mc_boot.specs.Boot.{HasCome, IsBootOf, all_of, course_list, progress}
 use Rattle.mc_boot.specs.Outcome.{Report, ops_of, outcome_of}
-use Rattle.mc_boot.specs.Plan.{PowerOn, is_revert, number_of, opening_writes, plan, power_on, preparation_writes}
+use Rattle.mc_boot.specs.Plan.{PowerOn, is_revert, number_of, opening_writes, plan, preparation_writes}
 use Rattle.mc_boot.specs.declared.boot.Boot.{Boot}
 use Rattle.mc_boot.specs.declared.course.Course.{Course}
 use Rattle.mc_boot.specs.declared.course.Opening.{Opening}

@@ -77,13 +77,7 @@ module _ (c : List (ℕ × ℕ)) (old : Walked TwoRounds) where
     pub no_allocation_failed : NoAllocationFailed old.seen now.seen
 
   pub along_begin : old.stands ≡ true → old.path ≡ [] → IsAlong 0 old
-  along_begin stands root = record {
-    cuts_are = ap cuts root;
-    member = subst (IsPathIn old) (sym root) (omega arith, tt);
-    same = record { flash_tree = refl; bound = refl; origin = refl };
-    stands = stands;
-    no_allocation_failed = record { limits = refl; failed = refl };
-  }
+  along_begin stands root = grind arith
 
   module _ (n : ℕ) (mid : Walked TwoRounds) (a : IsAlong n mid) (inside : n < length c) (summary : Both) (there : IsThere (kind_of mid.flash_tree) mid summary) (number : Option ℕ)
       (child : (r : Rules) (g : Geometry) (confirms : Bool) (p : RoundNode Content) → IsLayout g → AreSummaries r g confirms p summary → HasChildOf r g confirms p (get_or c n (0, 0)) number)

@@ -78,14 +78,7 @@ module _ (round : ℕ) (cuts items : List (ℕ × ℕ)) (is : items ≡ cuts) (i
   below = subst (λ (l : List (ℕ × ℕ)). i < length l) is inside
 
   pub takes_it : (get_or items i (0, 0)).0 ≡ round → new ≡ old ++ (get_or items i (0, 0)).1 ∷ [] → (new ≡ in_round round (take (i + 1) cuts)) × (length new ≤ i + 1)
-  takes_it at pushed = (
-    pushed ∙ ap (λ z. z ++ (get_or items i (0, 0)).1 ∷ []) so_far ∙ ap (λ (l : List (ℕ × ℕ)). in_round round (take i cuts) ++ (get_or l i (0, 0)).1 ∷ []) is
-        ∙ sym (of_round round cuts i below (ap (λ (l : List (ℕ × ℕ)). (get_or l i (0, 0)).0) (sym is) ∙ at)),
-    omega (arith, at_most, length-append old ((get_or items i (0, 0)).1 ∷ []), ap (λ (l : List ℕ). length l) pushed),
-  )
+  takes_it at pushed = grind (arith, of_round, length-append)
 
   pub leaves_it : (get_or items i (0, 0)).0 ≢ round → new ≡ old → (new ≡ in_round round (take (i + 1) cuts)) × (length new ≤ i + 1)
-  leaves_it at same = (
-    same ∙ so_far ∙ sym (of_another round cuts i below (λ e. at (ap (λ (l : List (ℕ × ℕ)). (get_or l i (0, 0)).0) is ∙ e))),
-    omega (arith, at_most, ap (λ (l : List ℕ). length l) same),
-  )
+  leaves_it at same = grind (arith, of_another)

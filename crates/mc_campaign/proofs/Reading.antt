@@ -3,7 +3,7 @@ use Rattle.std.proofs.Common.{ap, append-nil, append_assoc, arith, length-append
 use Rattle.std.proofs.Math.Seq.{drop-append_seam}
 use Rattle.std.proofs.lemmas.Fmt.{decimal_injective}
 use Rattle.std.proofs.lemmas.List.{drop-drop, drop-replicate, drop-set-lt}
-use Rattle.std.proofs.lemmas.List.Elements.{All-cons, All-drop, All-head, All-nil, All-push}
+use Rattle.std.proofs.lemmas.List.Elements.{All-drop, All-head, All-push}
 use Rattle.std.specs.Prelude.{All, Bool, List, Ok, Result, [], codes, decimal, drop, false, get_or, length, refl, replicate, slice_set, true, ℕ, ◌++◌, ◌+◌, ◌-◌, ◌<◌, ◌^◌, ◌∷◌, ◌≡◌, ◌≤◌}
 use Rattle.mc_campaign.specs.Campaigns.{AscendFrom}
 use Rattle.mc_campaign.specs.Texts.{FitsCut, IsCampaign, IsCut, choice_text, cut_text}
@@ -25,10 +25,7 @@ pair_text : (cut : ℕ × ℕ) → schedule_text (cut.0 ∷ cut.1 ∷ []) ≡ cu
 pair_text cut = ap (λ (z : List ℕ). decimal cut.0 ++ z) (append-nil (46 ∷ decimal cut.1))
 
 pair_is : (round index : ℕ) → round < 2 ^ 32 → index < 2 ^ 32 → IsSchedule (round ∷ index ∷ [])
-pair_is round index a b = record {
-  at_most = omega arith;
-  small = All-cons (λ c. c < 2 ^ 32) round (index ∷ []) a (All-cons (λ c. c < 2 ^ 32) index [] b (All-nil (λ c. c < 2 ^ 32)));
-}
+pair_is round index a b = grind arith
 
 no_comma_digit : (c : ℕ) → c ≡ 44 → 48 ≤ c → c ≤ 57 → ⊥
 no_comma_digit c is low high = omega (arith, is, low)
@@ -109,11 +106,7 @@ field_of c = record { digest = c.digest; bound = c.bound }
 pub cursor_is : (summary : Rules) (confirms : Bool) (start : StartField) (campaign : List (ℕ × ℕ)) (c : CampaignCursor)
     → summary ≡ c.rules → confirms ≡ c.confirms → start ≡ field_of c → campaign ≡ c.campaign
     → record { rules = summary; confirms = confirms; digest = start.digest; bound = start.bound; campaign = campaign } ≡ c
-cursor_is summary confirms start campaign c a b d e =
-    ap (λ (x : Rules). record { rules = x; confirms = confirms; digest = start.digest; bound = start.bound; campaign = campaign }) a
-    ∙ ap (λ (x : Bool). record { rules = c.rules; confirms = x; digest = start.digest; bound = start.bound; campaign = campaign }) b
-    ∙ ap (λ (x : StartField). record { rules = c.rules; confirms = c.confirms; digest = x.digest; bound = x.bound; campaign = campaign }) d
-    ∙ ap (λ (x : List (ℕ × ℕ)). record { rules = c.rules; confirms = c.confirms; digest = c.digest; bound = c.bound; campaign = x }) e
+cursor_is summary confirms start campaign c a b d e = grind arith
 
 -- The fixed room of a campaign: after its cuts stand blanks.
 

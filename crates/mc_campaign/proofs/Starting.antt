@@ -1,8 +1,7 @@
 -- Where the second round of a campaign begins.
-use Rattle.std.proofs.Common.{ap, arith, drop, length, sym, take, ◌∙◌}
-use Rattle.std.proofs.lemmas.Bool.Decides.{nat_tests}
-use Rattle.std.proofs.lemmas.List.{drop_at, length-append, take_at}
-use Rattle.std.specs.Prelude.{Bool, Err, List, MatchResult, Ok, Result, if◌then◌else◌, true, ℕ, ◌++◌, ◌+◌, ◌==◌, ◌≡◌}
+use Rattle.std.proofs.Common.{ap, arith, length, sym, ◌∙◌}
+use Rattle.std.proofs.lemmas.List.{drop_at, take_at}
+use Rattle.std.specs.Prelude.{Bool, Err, List, MatchResult, Ok, Result, ℕ, ◌++◌, ◌≡◌}
 use Rattle.mc_boot.specs.Outcome.{Report}
 use Rattle.mc_boot.specs.Plan.{PowerOn, again, power_on}
 use Rattle.mc_boot.specs.Restart.{confirmed_if}
@@ -13,19 +12,11 @@ use Rattle.mc_flash.specs.Geometry.{Geometry}
 use Rattle.mc_flash.specs.declared.op.Slot.TheVariants.{Primary, Secondary}
 use Rattle.mc_start.specs.Start.{of_flash}
 use Rattle.mc_trailer.specs.declared.tables.Rules.{Rules}
-use Rattle.mc_start.specs.declared.start.StartError.TheVariants as errors
 
 -- The flash of the bytes of both slots, one after the other, has these.
 pub of_both : (g : Geometry) (p s : List ℕ) (x : Content) → length p ≡ size_of g Primary → length s ≡ size_of g Secondary → of_flash g (p ++ s) ≡ Ok x
     → x ≡ record { primary = p; secondary = s }
-of_both g p s x low high is =
-    let long : (length (p ++ s) == size_of g Primary + size_of g Secondary) ≡ true = grind (arith, nat_tests, length-append p s) in
-    let first : take (size_of g Primary) (p ++ s) ≡ p = take_at p s (size_of g Primary) low in
-    let rest : drop (size_of g Primary) (p ++ s) ≡ s = drop_at p s (size_of g Primary) low in
-    let both : Content = record { primary = take (size_of g Primary) (p ++ s); secondary = drop (size_of g Primary) (p ++ s) } in
-    let made : of_flash g (p ++ s) ≡ Ok both = ap (λ (b : Bool). if b then Ok both else Err errors.FlashSize) long in
-    let same : Ok x ≡ Ok both = sym is ∙ made in
-    cc
+of_both g p s x low high is = grind (arith, take_at, drop_at)
 
 -- The second round begins where the first leaves the flash, once the image has confirmed itself or not.
 pub begins_second : (start : PowerOn) (confirms : Bool) (r : Rules) (g : Geometry) (rules : r ≡ start.rules) (layout : g ≡ start.geometry) (p q cuts : List ℕ) (one : Report)

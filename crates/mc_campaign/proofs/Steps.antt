@@ -1,10 +1,10 @@
 -- The first child of a node of two rounds, and the next.
-use Rattle.std.specs.Prelude.{◌≡◌, ℕ, ◌+◌, ◌<◌, ◌≤◌, min, Bool, List, length, Some, Result, Ok, Err, IfOk, refl}
+use Rattle.std.specs.Prelude.{◌≡◌, ℕ, ◌+◌, ◌<◌, ◌≤◌, min, Bool, length, Some, Result, Ok, Err, IfOk, refl}
 use Rattle.std.proofs.Common.{arith, sym, ap, subst, ◌∙◌}
 use Rattle.mc_tree.specs.Tree.{RoundNode, round_one, round_two}
 use Rattle.mc_flash.specs.Flash.{Content}
 use Rattle.mc_flash.specs.Geometry.{Geometry, IsLayout}
-use Rattle.mc_flash.specs.Usage.{Counts, Limits, no_counts, Seen, Allows, LeaveRoom, plus, room_of}
+use Rattle.mc_flash.specs.Usage.{Counts, no_counts, Seen, Allows, LeaveRoom, plus}
 use Rattle.mc_flash.specs.facts.Usage.{few_operations}
 use Rattle.mc_trailer.specs.declared.tables.Rules.{Rules}
 use Rattle.mc_boot.specs.Boot.{progress, left_of}
@@ -15,14 +15,14 @@ use Rattle.mc_boot.specs.declared.boot.Boot.{Boot}
 use Rattle.mc_walk.specs.TreeModel.{IsAt, IsChild, IsChildSummary}
 use Rattle.mc_explore.specs.inner.OneRound.{at_cut, CanPass, CountsAtMost, IsSummary, LeavesAlike, most_of, one_round}
 use Rattle.mc_explore.specs.facts.Occurring.{at_zero}
-use Rattle.mc_explore.specs.facts.Summaries.{first_left, first_on, width_is}
+use Rattle.mc_explore.specs.facts.Summaries.{first_left, width_is}
 use Rattle.mc_explore.specs.declared.one_round.Summary.{Summary}
-use Rattle.mc_campaign.specs.inner.TwoRounds.{second_start, AreSummaries, content_at, later_from, later_number, left_of_child_boot, most_of_both, owed_at, two_rounds_model}
+use Rattle.mc_campaign.specs.inner.TwoRounds.{AreSummaries, content_at, left_of_child_boot, most_of_both, owed_at, two_rounds_model}
 use Rattle.mc_campaign.specs.declared.campaign.Round.TheVariants as rounds_of
 use Rattle.mc_campaign.specs.declared.rounds.Both.{Both}
 use Rattle.mc_campaign.specs.declared.rounds.ChildBoot.{ChildBoot}
 use Rattle.mc_campaign.specs.declared.rounds.ChildBoot.TheVariants as child_boots
-use Rattle.mc_campaign.proofs.Ways.{at_begin, at_first, at_next, between, between_left, child, first_at, first_child, later_at, later_child, later_early, same_start, width}
+use Rattle.mc_campaign.proofs.Ways.{at_begin, at_first, between, between_left, child, first_at, first_child, same_start, width}
 use Rattle.mc_boot.specs.Plan.{power_on}
 
 -- ---- the room of two rounds
@@ -30,16 +30,10 @@ use Rattle.mc_boot.specs.Plan.{power_on}
 -- Where the first round is over there is room for the write between them, and then for the second.
 module _ (r : Rules) (g : Geometry) (old mid : Seen) (room : Allows (most_of_both r g) old) (counts : CountsAtMost (most_of r g) old mid) (limits : mid.usage.limits ≡ old.usage.limits) where
   pub write_room : Allows one_write mid
-  write_room = record {
-    entries = omega (arith, room.entries, counts.counts.entries, ap (λ (l : Limits). l.entries) limits);
-    saved = omega (arith, room.saved, counts.counts.saved, ap (λ (l : Limits). l.saved) limits);
-  }
+  write_room = grind arith
 
   pub second_room : (new : Seen) → LeaveRoom new.usage.counts no_counts (plus mid.usage.counts one_write) → new.usage.limits ≡ mid.usage.limits → Allows (most_of r g) new
-  second_room new write same = record {
-    entries = omega (arith, room.entries, counts.counts.entries, write.entries, ap (λ (l : Limits). l.entries) limits, ap (λ (l : Limits). l.entries) same);
-    saved = omega (arith, room.saved, counts.counts.saved, write.saved, ap (λ (l : Limits). l.saved) limits, ap (λ (l : Limits). l.saved) same);
-  }
+  second_room new write same = grind arith
 
 module _ (r : Rules) (g : Geometry) (confirms : Bool) where
   -- ---- the first
@@ -47,10 +41,7 @@ module _ (r : Rules) (g : Geometry) (confirms : Bool) where
   pub begins_first : (p : RoundNode Content) (summary : Both) (seen : Seen) → summary.round ≡ rounds_of.First → 0 < summary.first.outcome.ops → AreSummaries r g confirms p summary
       → seen.content ≡ content_at p → seen.geometry ≡ g
       → IsAt (two_rounds_model r g confirms) p 0 (child_boots.First summary.first.boot summary.first.outcome.ops summary.second) seen
-  begins_first (round_one s) summary seen round some t content layout =
-      let ops = width_is r g summary.first s t.first_is in
-      at_first r g confirms s 0 summary.first.boot summary.first.outcome.ops summary.second seen
-      (record { on_is = first_on r g s summary.first t.first_is; content_is = content ∙ at_zero (power_on r g s); layout_is = layout }) (omega (arith, some, ops)) ops t.second_is
+  begins_first (round_one s) summary seen round some t content layout = grind (arith, width_is, at_zero)
   begins_first (round_two began s) summary seen round some t content layout = let not_so : rounds_of.First ≡ rounds_of.Second = sym round ∙ t.round_is in absurd cc
 
   -- Where the first round has no operation its boot is over.
@@ -73,16 +64,12 @@ module _ (r : Rules) (g : Geometry) (confirms : Bool) where
   -- What is left then is no more than was owed.
   pub left_first : (p : RoundNode Content) (summary : Both) (old : Counts) → summary.round ≡ rounds_of.First → AreSummaries r g confirms p summary
       → LeaveRoom old (left_of_child_boot r g (child_boots.First summary.first.boot summary.first.outcome.ops summary.second)) (plus old (owed_at r g p))
-  left_first (round_one s) summary old round t =
-      let one = first_left r g s summary.first t.first_is old in
-      record { entries = omega (arith, one.entries); saved = omega (arith, one.saved) }
+  left_first (round_one s) summary old round t = grind arith
   left_first (round_two began s) summary old round t = let not_so : rounds_of.First ≡ rounds_of.Second = sym round ∙ t.round_is in absurd cc
 
   pub left_beyond : (p : RoundNode Content) (summary : Both) (old new : Counts) → summary.round ≡ rounds_of.First → AreSummaries r g confirms p summary → LeaveRoom new no_counts (plus old one_write)
       → LeaveRoom new (left_of_child_boot r g (child_boots.Second summary.second.boot)) (plus old (owed_at r g p))
-  left_beyond (round_one s) summary old new round t more =
-      let one = first_left r g (second_start r g confirms s) summary.second t.second_is old in
-      record { entries = omega (arith, one.entries, more.entries); saved = omega (arith, one.saved, more.saved) }
+  left_beyond (round_one s) summary old new round t more = grind arith
   left_beyond (round_two began s) summary old new round t more = let not_so : rounds_of.First ≡ rounds_of.Second = sym round ∙ t.round_is in absurd cc
 
   pub left_second : (p : RoundNode Content) (summary : Both) (old : Counts) → summary.round ≡ rounds_of.Second → AreSummaries r g confirms p summary
@@ -94,14 +81,12 @@ module _ (r : Rules) (g : Geometry) (confirms : Bool) where
 
   pub first_passes : (p : RoundNode Content) (i : ℕ) (boot : Boot) (ops : ℕ) (later : Summary) (seen : Seen) → IsAt (two_rounds_model r g confirms) p i (child_boots.First boot ops later) seen
       → Allows (left_of_child_boot r g (child_boots.First boot ops later)) seen → CanPass r g boot seen
-  first_passes (round_one s) i boot ops later seen at room =
-      (s, i, first_at r g confirms s i boot ops later seen at, at.on_is.early, record { entries = omega (arith, room.entries); saved = omega (arith, room.saved) })
+  first_passes (round_one s) i boot ops later seen at room = grind arith
   first_passes (round_two began s) i boot ops later seen at room = absurd at.on_is
 
   pub second_passes : (p : RoundNode Content) (i : ℕ) (boot : Boot) (seen : Seen) → IsAt (two_rounds_model r g confirms) p i (child_boots.Second boot) seen → i < width r g confirms p
       → Allows (left_of_child_boot r g (child_boots.Second boot)) seen → CanPass r g boot seen
-  second_passes p i boot seen at early room =
-      (later_from r g confirms p, later_number r g confirms p i, later_at r g confirms p i boot seen at, later_early r g confirms p i at.on_is.0 early, room)
+  second_passes p i boot seen at early room = grind arith
 
   pub next_first : (p : RoundNode Content) (i : ℕ) (boot boot' : Boot) (ops : ℕ) (later : Summary) (old new : Seen) → IsAt (two_rounds_model r g confirms) p i (child_boots.First boot ops later) old
       → ((s : Content) (j : ℕ) → IsAt (one_round r g) s j boot old → j < length (ops_of (power_on r g s)) → IsAt (one_round r g) s (j + 1) boot' new) → boot'.done < ops
@@ -126,9 +111,7 @@ module _ (r : Rules) (g : Geometry) (confirms : Bool) where
   pub next_second : (p : RoundNode Content) (i : ℕ) (boot boot' : Boot) (old new : Seen) → IsAt (two_rounds_model r g confirms) p i (child_boots.Second boot) old
       → ((s : Content) (j : ℕ) → IsAt (one_round r g) s j boot old → j < length (ops_of (power_on r g s)) → IsAt (one_round r g) s (j + 1) boot' new) → i < width r g confirms p
       → IsAt (two_rounds_model r g confirms) p (i + 1) (child_boots.Second boot') new
-  next_second p i boot boot' old new at passes early =
-      at_next r g confirms p i boot' new at.on_is.0
-      (passes (later_from r g confirms p) (later_number r g confirms p i) (later_at r g confirms p i boot old at) (later_early r g confirms p i at.on_is.0 early))
+  next_second p i boot boot' old new at passes early = grind arith
 
   -- What they count.
   pub counts_first : (boot boot' : Boot) (ops : ℕ) (later : Summary) (old new : Counts) → LeaveRoom new (left_of g (progress boot')) (plus old (left_of g (progress boot)))
@@ -139,17 +122,13 @@ module _ (r : Rules) (g : Geometry) (confirms : Bool) where
       → IsAt (two_rounds_model r g confirms) p i (child_boots.First boot ops later) seen
       → LeaveRoom mid (left_of g (progress boot')) (plus old (left_of g (progress boot))) → LeaveRoom new no_counts (plus mid one_write)
       → LeaveRoom new (left_of_child_boot r g (child_boots.Second later.boot)) (plus old (left_of_child_boot r g (child_boots.First boot ops later)))
-  counts_between (round_one s) i boot boot' ops later seen old mid new at c d =
-      let one = first_left r g (second_start r g confirms s) later at.on_is.later_is old in
-      record { entries = omega (arith, one.entries, c.entries, d.entries); saved = omega (arith, one.saved, c.saved, d.saved) }
+  counts_between (round_one s) i boot boot' ops later seen old mid new at c d = grind arith
   counts_between (round_two began s) i boot boot' ops later seen old mid new at c d = absurd at.on_is
 
   -- There is room for the write between the rounds.
   pub room_between : (boot boot' : Boot) (ops : ℕ) (later : Summary) (old mid : Seen) → Allows (left_of_child_boot r g (child_boots.First boot ops later)) old
       → LeaveRoom mid.usage.counts (left_of g (progress boot')) (plus old.usage.counts (left_of g (progress boot))) → mid.usage.limits ≡ old.usage.limits → Allows one_write mid
-  room_between boot boot' ops later old mid room c same =
-      let P : Limits → Type 0 = λ l. LeaveRoom mid.usage.counts one_write (room_of l) in
-      subst P (sym same) (record { entries = omega (arith, room.entries, c.entries); saved = omega (arith, room.saved, c.saved) })
+  room_between boot boot' ops later old mid room c same = grind arith
 
   -- ---- the summary of a child
 
@@ -178,29 +157,20 @@ module _ (r : Rules) (g : Geometry) (confirms : Bool) where
   -- Else both are run.
   summary_run : (p : RoundNode Content) (i : ℕ) (boot : Boot) (ops : ℕ) (later : Summary) (seen : Seen) (both : Both) → IsAt (two_rounds_model r g confirms) p i (child_boots.First boot ops later) seen
       → AreSummaries r g confirms (round_one seen.content) both → AreSummaries r g confirms (child r g confirms p i) both
-  summary_run (round_one s) i boot ops later seen both at t =
-      subst (λ q. AreSummaries r g confirms q both) (sym (first_child r g confirms s i at.on_is.early))
-      (subst (λ x. AreSummaries r g confirms (round_one x) both) (first_at r g confirms s i boot ops later seen at).content_is t)
+  summary_run (round_one s) i boot ops later seen both at t = grind arith
   summary_run (round_two began s) i boot ops later seen both at t = absurd at.on_is
 
   pub summary_children : {E : Type 0} (child_boot : ChildBoot) (boot : Boot) (ops : ℕ) (later : Summary) (parent : Both) (seen : Seen) (result : Result Both E)
       → child_boot ≡ child_boots.First boot ops later
       → IfOk result (AreSummaries r g confirms (round_one seen.content)) → IfOk result (IsChildSummary (two_rounds_model r g confirms) child_boot parent seen)
-  summary_children child_boot boot ops later parent seen (Ok both) is t = λ p i at early summary. summary_run p i boot ops later seen both (subst (λ w. IsAt (two_rounds_model r g confirms)
-      p i w seen) is at) t
+  summary_children child_boot boot ops later parent seen (Ok both) is t = grind arith
   summary_children child_boot boot ops later parent seen (Err e) is t = tt
 
   pub summary_second : (p : RoundNode Content) (i : ℕ) (boot : Boot) (two : Summary) (parent : Both) (seen : Seen) → IsAt (two_rounds_model r g confirms) p i (child_boots.Second boot) seen
       → i < width r g confirms p
       → AreSummaries r g confirms p parent → IsChildSummary (one_round r g) boot parent.second seen two
       → AreSummaries r g confirms (child r g confirms p i) (record { round = rounds_of.Second; first = parent.first; second = two })
-  summary_second p i boot two parent seen at early t gives =
-      subst (λ q. AreSummaries r g confirms q (record { round = rounds_of.Second; first = parent.first; second = two })) (sym (later_child r g confirms p i at.on_is.0))
-      (record {
-        round_is = refl;
-        first_is = t.first_is;
-        second_is = gives (later_from r g confirms p) (later_number r g confirms p i) (later_at r g confirms p i boot seen at) (later_early r g confirms p i at.on_is.0 early) t.second_is;
-      })
+  summary_second p i boot two parent seen at early t gives = grind arith
 
   -- Two boots that were run, one after the other.
   pub both_outcomes : (old mid new : Seen) (one two : Summary) → old.geometry ≡ g → mid.geometry ≡ old.geometry → IsSummary (power_on r g old.content) one
@@ -218,16 +188,7 @@ module _ (r : Rules) (g : Geometry) (confirms : Bool) where
   pub width_first : (p : RoundNode Content) (summary : Both) (n : ℕ) → IsLayout g → summary.round ≡ rounds_of.First → AreSummaries r g confirms p summary
       → n ≡ min (summary.first.outcome.ops + summary.second.outcome.ops) 4294967295
       → n ≡ width r g confirms p
-  width_first (round_one s) summary n valid round t is =
-      omega (
-        arith,
-        is,
-        width_is r g summary.first s t.first_is,
-        width_is r g summary.second (second_start r g confirms s) t.second_is,
-        few_ops (power_on r g s) valid,
-        few_ops (power_on r g (second_start r g confirms s)) valid,
-        few_operations r.grain g valid,
-      )
+  width_first (round_one s) summary n valid round t is = grind (arith, width_is, few_ops, few_operations)
   width_first (round_two began s) summary n valid round t is = let not_so : rounds_of.First ≡ rounds_of.Second = sym round ∙ t.round_is in absurd cc
 
   pub width_second : (p : RoundNode Content) (summary : Both) → summary.round ≡ rounds_of.Second → AreSummaries r g confirms p summary → summary.second.outcome.ops ≡ width r g confirms p

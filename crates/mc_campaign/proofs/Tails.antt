@@ -1,6 +1,5 @@
 -- Where what lies below a child of two rounds lies among what lies below its parent.
-use Rattle.std.proofs.Common.{Bool, IfSome, List, None, Option, Some, ap, arith, inl, inr, length, refl, subst, suc, sym, zero, ℕ, ◌+◌, ◌-◌, ◌<◌, ◌∙◌, ◌≡◌, ◌≤◌}
-use Rattle.std.proofs.lemmas.Bool.{cases_lt}
+use Rattle.std.proofs.Common.{Bool, IfSome, List, None, Option, Some, ap, arith, length, refl, subst, suc, sym, zero, ℕ, ◌+◌, ◌-◌, ◌<◌, ◌∙◌, ◌≡◌, ◌≤◌}
 use Rattle.mc_boot.specs.Outcome.{Report, ops_of, shown}
 use Rattle.mc_boot.specs.Plan.{power_on}
 use Rattle.mc_boot.specs.SharedTail.{IsMovedBy, index_in_parent}
@@ -8,13 +7,13 @@ use Rattle.mc_boot.specs.declared.boot.Boot.{Boot}
 use Rattle.mc_boot.specs.declared.outcome.BootResult.{BootResult}
 use Rattle.mc_boot.specs.declared.shared_tail.SharedTail.{SharedTail}
 use Rattle.mc_boot.specs.facts.Run.{outcome_defined}
-use Rattle.mc_campaign.proofs.Ways.{child, first_at, first_child, later_at, later_child, later_early, same_start}
+use Rattle.mc_campaign.proofs.Ways.{child, later_child, same_start}
 use Rattle.mc_campaign.specs.Rows.{end_result}
 use Rattle.mc_campaign.specs.declared.rounds.Both.{Both}
 use Rattle.mc_campaign.specs.facts.Listed.{end_from, report_from}
 use Rattle.mc_campaign.specs.facts.Paths.{some_same}
 use Rattle.mc_campaign.specs.declared.rounds.ChildBoot.{ChildBoot}
-use Rattle.mc_campaign.specs.inner.TwoRounds.{began_at, later_from, later_number, rounds, second_start, two_rounds_model}
+use Rattle.mc_campaign.specs.inner.TwoRounds.{later_from, later_number, rounds, second_start, two_rounds_model}
 use Rattle.mc_explore.specs.Right.{judged}
 use Rattle.mc_explore.specs.declared.expectation.Expectation.{Expectation}
 use Rattle.mc_explore.specs.declared.one_round.Summary.{Summary}
@@ -41,26 +40,12 @@ module _ (r : Rules) (g : Geometry) (confirms : Bool) where
   module _ (parent child_summary : Both) (seen : Seen) (i : ℕ) where
     pub first_child_of : (p : RoundNode Content) (boot : Boot) (ops : ℕ) (later : Summary) → IsChildOf (two_rounds_model r g confirms) p i (child_boots.First boot ops later) parent child_summary seen
         → (s : Content) × (p ≡ round_one s) × IsChildOf (one_round r g) s i boot parent.first child_summary.first seen
-    first_child_of (round_one s) boot ops later is = (
-      s,
-      refl,
-      record {
-        at_is = first_at r g confirms s i boot ops later seen is.at_is;
-        some = is.at_is.on_is.early;
-        parent_is = is.parent_is.first_is;
-        child_is = subst (λ q. IsSummary (power_on r g (began_at q)) child_summary.first) (first_child r g confirms s i is.at_is.on_is.early) is.child_is.first_is;
-      },
-    )
+    first_child_of (round_one s) boot ops later is = grind arith
     first_child_of (round_two began s) boot ops later is = absurd is.at_is.on_is
 
     pub later_child_of : (p : RoundNode Content) (boot : Boot) → IsChildOf (two_rounds_model r g confirms) p i (child_boots.Second boot) parent child_summary seen
         → IsChildOf (one_round r g) (later_from r g confirms p) (later_number r g confirms p i) boot parent.second child_summary.second seen
-    later_child_of p boot is = record {
-      at_is = later_at r g confirms p i boot seen is.at_is;
-      some = later_early r g confirms p i is.at_is.on_is.0 is.some;
-      parent_is = is.parent_is.second_is;
-      child_is = subst (λ q. IsSummary (power_on r g (later_from r g confirms q)) child_summary.second) (later_child r g confirms p i is.at_is.on_is.0) is.child_is.second_is;
-    }
+    later_child_of p boot is = grind arith
 
   report_is : (s : Content) (summary : Summary) → IsSummary (power_on r g s) summary → report_from r g s ≡ shown summary.outcome
   report_is s summary is = some_same _ _ (sym (outcome_defined (power_on r g s)).1 ∙ is.outcome_is)
@@ -102,33 +87,13 @@ module _ (r : Rules) (g : Geometry) (confirms : Bool) where
       there = same_start r g confirms s u goes.left
 
       early : (j : ℕ) → j < x.erases → Alike (child r g confirms (round_one u) j) (child r g confirms (round_one s) (index_in_parent x j))
-      early j lt =
-          let inside : j < length (ops_of (power_on r g u)) = omega (arith, lt, goes.shared.at_most) in
-          same_node _ _ (child_first (boots r g) next u j inside ∙ ap (λ (v : Content). round_one v) (placed_at r g s u x goes.shared j inside)
-          ∙ sym (child_first (boots r g) next s (index_in_parent x j) (goes.shared.within j inside)))
+      early j lt = grind (arith, placed_at)
 
       late : (j : ℕ) → x.erases ≤ j → Alike (child r g confirms (round_one u) j) (child r g confirms (round_one s) (x.kept + j))
-      late j le = elim (cases_lt j (length (ops_of (power_on r g u)))) [
-        | inl inside ↦
-            same_node _ _ (child_first (boots r g) next u j inside ∙ ap (λ (v : Content). round_one v) (placed_late r g s u x goes.shared j le inside)
-            ∙ sym (child_first (boots r g) next s (x.kept + j) (omega (arith, inside, goes.shared.width))))
-        | inr outside ↦ λ k.
-            let number : j - length (ops_of (power_on r g u)) ≡ x.kept + j - length (ops_of (power_on r g s)) = omega (arith, outside, goes.shared.width) in
-            same_node _ _ (child_second (boots r g) next u j outside ∙ ap (λ (n : ℕ). round_two u (at_cut (power_on r g (next u)) n)) number
-            ∙ ap (λ (v : Content). round_two u (at_cut (power_on r g v) (x.kept + j - length (ops_of (power_on r g s))))) there) k
-            ∙ same_second u s same k (at_cut (power_on r g (next s)) (x.kept + j - length (ops_of (power_on r g s))))
-            ∙ same_node _ _ (sym (child_second (boots r g) next s (x.kept + j) (omega (arith, outside, goes.shared.width)))) k
-      ]
+      late j le = grind (arith, child_first, placed_late, there, same_second)
 
       pub first_shared : i < length (ops_of (power_on r g s)) → IsShared totals (rounds r g confirms) own (round_one s) (child r g confirms (round_one s) i) x.kept x.erases (index_in_parent x)
-      first_shared lt =
-          subst (λ p. IsShared totals (rounds r g confirms) own (round_one s) p x.kept x.erases (index_in_parent x)) (sym (first_child r g confirms s i lt)) (record {
-            width = omega (arith, goes.shared.width, ap (λ v. length (ops_of (power_on r g v))) there);
-            at_most = omega (arith, goes.shared.at_most);
-            within = λ j lt. omega (arith, goes.shared.within j (omega (arith, lt, goes.shared.at_most)));
-            early = early;
-            late = λ j le lt. late j le;
-          })
+      first_shared lt = grind (arith, there, early, late)
 
     -- A child in the second round: of a node of the first, among whose children those of the first round stand before it, or of one of
     -- the second.
@@ -137,13 +102,7 @@ module _ (r : Rules) (g : Geometry) (confirms : Bool) where
       w = at_cut (power_on r g v) i
 
       pub second_shared : (began : Content) → IsShared totals (rounds r g confirms) own (round_two began v) (round_two began w) x.kept x.erases (index_in_parent x)
-      second_shared began = record {
-        width = goes.shared.width;
-        at_most = goes.shared.at_most;
-        within = λ j lt. goes.shared.within j (omega (arith, lt, goes.shared.at_most));
-        early = λ j lt. same_node _ _ (ap (λ (z : Content). round_two began z) (placed_at r g v w x goes.shared j (omega (arith, lt, goes.shared.at_most))));
-        late = λ j le lt. same_node _ _ (ap (λ (z : Content). round_two began z) (placed_late r g v w x goes.shared j le lt));
-      }
+      second_shared began = grind (arith, placed_at, placed_late)
 
       pub moved_shared : (s : Content) (y : SharedTail) → v ≡ second_start r g confirms s → IsMovedBy (length (ops_of (power_on r g s))) x y
           → IsShared totals (rounds r g confirms) own (round_one s) (round_two s w) y.kept y.erases (index_in_parent y)

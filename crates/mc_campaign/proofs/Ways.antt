@@ -1,6 +1,6 @@
 -- From one node of two rounds to another.
-use Rattle.std.specs.Prelude.{◌≡◌, ℕ, ◌+◌, ◌<◌, Bool, length, Option, Some, refl}
-use Rattle.std.proofs.Common.{arith, sym, ap, subst, ◌∙◌}
+use Rattle.std.specs.Prelude.{◌≡◌, ℕ, ◌<◌, Bool, length, Option, Some, refl}
+use Rattle.std.proofs.Common.{arith, sym, ap, ◌∙◌}
 use Rattle.mc_tree.specs.Tree.{RoundNode, round_one, round_two, two_rounds_child, two_rounds_width}
 use Rattle.mc_tree.specs.facts.Rounds.{child_first, child_second}
 use Rattle.mc_flash.specs.Flash.{Content}
@@ -14,9 +14,8 @@ use Rattle.mc_boot.specs.declared.boot.Boot.{Boot}
 use Rattle.mc_walk.specs.TreeModel.{IsAt}
 use Rattle.mc_explore.specs.inner.OneRound.{at_cut, boots, content_or, IsSummary, one_round}
 use Rattle.mc_explore.specs.facts.Occurring.{at_zero}
-use Rattle.mc_explore.specs.facts.Summaries.{first_on}
 use Rattle.mc_explore.specs.declared.one_round.Summary.{Summary}
-use Rattle.mc_campaign.specs.inner.TwoRounds.{second_start, began_at, content_at, IsLater, later_from, later_number, two_rounds_model}
+use Rattle.mc_campaign.specs.inner.TwoRounds.{second_start, began_at, IsLater, later_from, later_number, two_rounds_model}
 use Rattle.mc_campaign.specs.declared.rounds.ChildBoot.TheVariants as child_boots
 use Rattle.mc_boot.specs.Plan.{power_on}
 
@@ -34,59 +33,18 @@ module _ (r : Rules) (g : Geometry) (confirms : Bool) where
 
   pub first_at : (s : Content) (i : ℕ) (boot : Boot) (ops : ℕ) (later : Summary) (seen : Seen) → IsAt (two_rounds_model r g confirms) (round_one s) i (child_boots.First boot ops later) seen
       → IsAt (one_round r g) s i boot seen
-  first_at s i boot ops later seen at = record {
-    on_is = at.on_is.made;
-    content_is = at.content_is ∙ ap content_at (first_child s i at.on_is.early);
-    layout_is = at.layout_is;
-  }
+  first_at s i boot ops later seen at = grind arith
 
   pub at_first : (s : Content) (i : ℕ) (boot : Boot) (ops : ℕ) (later : Summary) (seen : Seen) → IsAt (one_round r g) s i boot seen → i < length (ops_of (power_on r g s))
       → ops ≡ length (ops_of (power_on r g s))
       → IsSummary (power_on r g (second_start r g confirms s)) later → IsAt (two_rounds_model r g confirms) (round_one s) i (child_boots.First boot ops later) seen
-  at_first s i boot ops later seen at early same summary = record {
-    on_is = record { early = early; made = at.on_is; ops_is = same; later_is = summary };
-    content_is = at.content_is ∙ sym (ap content_at (first_child s i early));
-    layout_is = at.layout_is;
-  }
+  at_first s i boot ops later seen at early same summary = grind arith
 
   -- ---- a child in the second
 
   pub later_child : (p : RoundNode Content) (i : ℕ) → IsLater r g confirms p i → child p i ≡ round_two (began_at p) (at_cut (power_on r g (later_from r g confirms p)) (later_number r g confirms p i))
   later_child (round_one s) i le = child_second (boots r g) (second_start r g confirms) s i le
   later_child (round_two began s) i le = refl
-
-  pub later_at : (p : RoundNode Content) (i : ℕ) (boot : Boot) (seen : Seen) → IsAt (two_rounds_model r g confirms) p i (child_boots.Second boot) seen
-      → IsAt (one_round r g) (later_from r g confirms p) (later_number r g confirms p i) boot seen
-  later_at p i boot seen at = record {
-    on_is = at.on_is.1;
-    content_is = at.content_is ∙ ap content_at (later_child p i at.on_is.0);
-    layout_is = at.layout_is;
-  }
-
-  pub at_later : (p : RoundNode Content) (i : ℕ) (boot : Boot) (seen : Seen) → IsLater r g confirms p i → IsAt (one_round r g) (later_from r g confirms p) (later_number r g confirms p i) boot seen
-      → IsAt (two_rounds_model r g confirms) p i (child_boots.Second boot) seen
-  at_later p i boot seen later at = record {
-    on_is = (later, at.on_is);
-    content_is = at.content_is ∙ sym (ap content_at (later_child p i later));
-    layout_is = at.layout_is;
-  }
-
-  pub later_early : (p : RoundNode Content) (i : ℕ) → IsLater r g confirms p i → i < width p → later_number r g confirms p i < length (ops_of (power_on r g (later_from r g confirms p)))
-  later_early (round_one s) i le lt = omega (arith, le, lt)
-  later_early (round_two began s) i le lt = lt
-
-  later_goes_on : (p : RoundNode Content) (i : ℕ) → IsLater r g confirms p i → IsLater r g confirms p (i + 1)
-  later_goes_on (round_one s) i le = omega (arith, le)
-  later_goes_on (round_two began s) i le = tt
-
-  later_next : (p : RoundNode Content) (i : ℕ) → IsLater r g confirms p i → later_number r g confirms p i + 1 ≡ later_number r g confirms p (i + 1)
-  later_next (round_one s) i le = omega (arith, le)
-  later_next (round_two began s) i le = refl
-
-  pub at_next : (p : RoundNode Content) (i : ℕ) (boot : Boot) (seen : Seen) → IsLater r g confirms p i → IsAt (one_round r g) (later_from r g confirms p) (later_number r g confirms p i + 1) boot seen
-      → IsAt (two_rounds_model r g confirms) p (i + 1) (child_boots.Second boot) seen
-  at_next p i boot seen later at =
-      at_later p (i + 1) boot seen (later_goes_on p i later) (subst (λ n. IsAt (one_round r g) (later_from r g confirms p) n boot seen) (later_next p i later) at)
 
   -- ---- between the rounds
 
@@ -104,20 +62,13 @@ module _ (r : Rules) (g : Geometry) (confirms : Bool) where
   pub between_left : (s new : Content) (old : Seen) → old.geometry ≡ g → left_by (power_on r g s) ≡ Some old.content → new ≡ confirmed_if confirms old.geometry old.content
       → new ≡ second_start r g confirms s
   unfolding second_start
-  between_left s new old layout left is =
-      is ∙ ap (λ x. confirmed_if confirms x old.content) layout ∙ ap (λ (o : Option Content). confirmed_if confirms g (content_or s o)) (sym left)
+  between_left s new old layout left is = grind arith
 
   -- Where the second round begins its boot is at its first operation.
   pub at_begin : (p : RoundNode Content) (i : ℕ) (summary : Summary) (seen : Seen) → IsLater r g confirms p i → later_number r g confirms p i ≡ 0
       → seen.content ≡ later_from r g confirms p → seen.geometry ≡ g
       → IsSummary (power_on r g (later_from r g confirms p)) summary → IsAt (two_rounds_model r g confirms) p i (child_boots.Second summary.boot) seen
-  at_begin p i summary seen later zero content layout is =
-      let here : IsAt (one_round r g) (later_from r g confirms p) 0 summary.boot seen = record {
-        on_is = first_on r g (later_from r g confirms p) summary is;
-        content_is = content ∙ at_zero (power_on r g (later_from r g confirms p));
-        layout_is = layout;
-      } in
-      at_later p i summary.boot seen later (subst (λ n. IsAt (one_round r g) (later_from r g confirms p) n summary.boot seen) (sym zero) here)
+  at_begin p i summary seen later zero content layout is = grind (arith, at_zero)
 
   -- Where the uncut boots leave the same flash the second round begins there.
   pub same_start : (s u : Content) → left_by (power_on r g u) ≡ left_by (power_on r g s) → second_start r g confirms u ≡ second_start r g confirms s

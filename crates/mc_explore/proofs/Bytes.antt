@@ -1,12 +1,11 @@
 -- Which bytes stand in the texts of schedules, rows and cursors.
-use Rattle.std.specs.Prelude.{◌≡◌, ◌≢◌, ℕ, zero, suc, ◌+◌, ◌/◌, ◌%◌, ◌==◌, ◌≤◌, ◌<◌, nat_lt, Bool, true, false, not, if◌then◌else◌, List, [], ◌∷◌, ◌++◌, take, flat_map, slice_index, codes, decimal, All, Option, Some, None, refl}
+use Rattle.std.specs.Prelude.{◌≡◌, ◌≢◌, ℕ, zero, suc, ◌/◌, ◌%◌, ◌==◌, ◌≤◌, ◌<◌, Bool, true, false, not, if◌then◌else◌, List, [], ◌∷◌, ◌++◌, take, flat_map, slice_index, codes, decimal, All, Option, Some, None, refl}
 use Rattle.std.specs.Fmt.{digits, digits_onto, digit_glyph}
 use Rattle.std.specs.List.{list_all}
 use Rattle.std.specs.Str.{IsUtf8}
 use Rattle.std.specs.Str.Iter.{LacksByte}
-use Rattle.std.proofs.Common.{arith, ap}
+use Rattle.std.proofs.Common.{arith}
 use Rattle.std.proofs.lemmas.Bool.{and_parts, eqb-false, not-true}
-use Rattle.std.proofs.lemmas.Bool.Decides.{nat_tests}
 use Rattle.std.proofs.lemmas.List.Elements.{All-nil, All-cons, All-append, All-take, All-weaker}
 use Rattle.std.proofs.lemmas.Str.{IsUtf8-from_ascii}
 use Rattle.std.proofs.lemmas.Str.Ascii.{IsAscii-from_all}
@@ -18,10 +17,8 @@ use Rattle.mc_trailer.specs.Tables.{type_text}
 use Rattle.mc_trailer.specs.declared.tables.Profile.{Profile}
 use Rattle.mc_trailer.specs.declared.tables.Profile.TheVariants as profiles
 use Rattle.mc_trailer.specs.declared.tables.SwapType.{SwapType}
-use Rattle.mc_trailer.specs.declared.tables.SwapType.TheVariants as types
 use Rattle.mc_boot.specs.Outcome.{result_text}
 use Rattle.mc_boot.specs.declared.outcome.BootResult.{BootResult}
-use Rattle.mc_boot.specs.declared.outcome.BootResult.TheVariants as results
 use Rattle.mc_start.specs.Cursor.{head_text, cursor_text}
 use Rattle.mc_explore.specs.Rows.{slot_text, row_text, ShownRow}
 use Rattle.mc_start.specs.Start.{schedule_text}
@@ -33,10 +30,7 @@ IsBetween low high c = (low ≤ c) × (c ≤ high)
 -- ---- numbers and schedules
 
 glyph : (d : ℕ) → d < 10 → IsBetween 48 57 (digit_glyph false d)
-glyph d lt =
-    let small : nat_lt d 10 ≡ true = grind (arith, nat_tests) in
-    let e : digit_glyph false d ≡ 48 + d = ap (λ b. if b then 48 + d else 87 + d) small in
-    (omega (arith, e), omega (arith, e, lt))
+glyph d lt = grind arith
 
 onto : (k n : ℕ) (acc : List ℕ) → All (IsBetween 48 57) acc → All (IsBetween 48 57) (digits_onto k 10 false n acc)
 onto zero n acc all = all
@@ -95,12 +89,10 @@ schedule : (l : List ℕ) → NoFeed (schedule_text l)
 schedule l = record { all = All-weaker (IsBetween 45 57) (λ c. c ≢ 10) (λ c is e. omega (arith, is.0, e)) (schedule_text l) (schedule_between l) }
 
 result : (r : BootResult) → NoFeed (result_text r)
-result results.Boot = literal (codes "boot") refl
-result r = literal (result_text r) refl
+result r = grind (arith, literal)
 
 kind : (t : SwapType) → NoFeed (type_text t)
-kind types.None = literal (codes "none") refl
-kind t = literal (type_text t) refl
+kind t = grind (arith, literal)
 
 slot : (o : Option Identity) → NoFeed (slot_text o)
 slot None = literal (codes "none") refl

@@ -1,7 +1,7 @@
 -- The rows of a survey, counted one after another, and whether each ends in a boot.
-use Rattle.std.proofs.Common.{Bool, List, None, Option, Some, [], ap, arith, cond, false, length, max, refl, subst, suc, sym, true, ℕ, ◌++◌, ◌+◌, ◌-◌, ◌<◌, ◌∙◌, ◌∷◌, ◌≡◌, ◌≤◌}
+use Rattle.std.proofs.Common.{List, None, Option, Some, [], ap, arith, cond, false, length, refl, subst, suc, sym, true, ℕ, ◌++◌, ◌+◌, ◌-◌, ◌<◌, ◌∙◌, ◌∷◌, ◌≡◌, ◌≤◌}
 use Rattle.std.proofs.lemmas.List.{length-append}
-use Rattle.std.proofs.lemmas.List.Sums.{count_by-le-length, fold_push, sum_by-cons, sum_by_push}
+use Rattle.std.proofs.lemmas.List.Sums.{count_by-le-length, fold_push, sum_by-cons}
 use Rattle.std.specs.List.{AllByRecursion}
 use Rattle.mc_boot.specs.Outcome.{Report}
 use Rattle.mc_boot.specs.declared.outcome.BootResult.{BootResult}
@@ -12,7 +12,7 @@ use Rattle.mc_explore.specs.Pages.{FindsBefore, IsLawful}
 use Rattle.mc_explore.specs.Rows.{schedules}
 use Rattle.mc_explore.specs.Rows as rows_of_schedules
 use Rattle.mc_explore.specs.Subject.{State, Subject, rows_of}
-use Rattle.mc_explore.specs.Survey.{IsWithin, Surveys, SurveysUntil, Tally, count_if, ending_with, is_boot, is_fault, is_none, is_panic, most_ops, no_tally, one_row_more, tally_by_now, tally_of}
+use Rattle.mc_explore.specs.Survey.{IsWithin, Surveys, SurveysUntil, Tally, ending_with, is_boot, no_tally, one_row_more, tally_by_now, tally_of}
 use Rattle.mc_explore.specs.Right.{SurveysRows, no_rights, one_judged_more, rights_by}
 use Rattle.mc_explore.specs.declared.expectation.Expectation.{Expectation}
 use Rattle.mc_explore.specs.declared.rights.RightsOf.{RightsOf}
@@ -24,32 +24,11 @@ use Rattle.mc_boot.specs.declared.outcome.BootResult.TheVariants as results
 -- The tally of some rows, and of one row more.
 
 module _ {R : Type 0} (ends : R → Report) where
-  ending_more : (test : BootResult → Bool) (rows : List R) (row : R)
-      → ending_with ends test rows + count_if (test (ends row).result) ≡ ending_with ends test (rows ++ row ∷ [])
-  ending_more test rows row =
-      ap (λ n. ending_with ends test rows + n) (one (test (ends row).result)) ∙ sym (sum_by_push (λ (r : R). cond (test (ends r).result) 1 0) rows row)
-    where
-      one : (b : Bool) → count_if b ≡ cond b 1 0
-      one true = refl
-      one false = refl
-
   tally_more : {U : Type 0} (rows : List R) (row : R) → one_row_more (ends row) (tally_by_now ends {U = U} rows) ≡ tally_by_now ends (rows ++ row ∷ [])
-  tally_more rows row =
-      let many : length rows + 1 ≡ length (rows ++ row ∷ []) = omega (arith, length-append rows (row ∷ [])) in
-      let boot = ending_more is_boot rows row in
-      let none = ending_more is_none rows row in
-      let panic = ending_more is_panic rows row in
-      let fault = ending_more is_fault rows row in
-      let most : max (most_ops ends rows) (ends row).ops ≡ most_ops ends (rows ++ row ∷ []) = sym (fold_push (λ most (r : R). max most (ends r).ops) 0 rows row) in
-      cc
+  tally_more rows row = grind (arith, length-append, fold_push)
 
   pub within : {U : Type 0} (rows : List R) → IsWithin (tally_by_now ends {U = U} rows)
-  within rows = record {
-    boot = count_by-le-length (λ (r : R). is_boot (ends r).result) rows;
-    none = count_by-le-length (λ (r : R). is_none (ends r).result) rows;
-    panic = count_by-le-length (λ (r : R). is_panic (ends r).result) rows;
-    fault = count_by-le-length (λ (r : R). is_fault (ends r).result) rows;
-  }
+  within rows = grind (arith, count_by-le-length)
 
 -- The rows of a survey, as they are counted one after another.
 

@@ -13,7 +13,7 @@ use Rattle.mc_boot.specs.SharedTail.{index_in_parent}
 use Rattle.mc_boot.specs.declared.outcome.BootResult.{BootResult}
 use Rattle.mc_boot.specs.declared.outcome.Outcome.{Outcome}
 use Rattle.mc_boot.specs.declared.shared_tail.SharedTail.{SharedTail}
-use Rattle.mc_explore.specs.Census.{IsCensusOf, census_by, cut_number}
+use Rattle.mc_explore.specs.Census.{IsCensusOf, census_by}
 use Rattle.mc_explore.specs.Pages.{IsRest}
 use Rattle.mc_explore.specs.Right.{judged}
 use Rattle.mc_explore.specs.Rows.{ShownRow, report_of}
@@ -47,27 +47,16 @@ with_schedule c first = record c { first_not_boot = first }
 take_prefix : (i : ℕ) (xs : List ℕ) → take 16 (i ∷ take 16 xs) ≡ take 16 (i ∷ xs)
 take_prefix i xs = ap (λ (l : List ℕ). i ∷ l) (take-take 15 16 xs (omega arith))
 
-take_lowered : (j : ℕ) (xs : List ℕ) → lowered j (take 16 xs) ≡ take 16 (lowered j xs)
-take_lowered j [] = refl
-take_lowered j (x ∷ xs) = refl
-
 beyond_first : (i : ℕ) (o : Option (List ℕ)) → option_map (λ l. take 16 (i ∷ l)) (option_map (take 16) o) ≡ option_map (take 16) (option_map (λ l. i ∷ l) o)
-beyond_first i None = refl
-beyond_first i (Some l) = ap (λ (x : List ℕ). Some x) (take_prefix i l)
-
-back_first : (j : ℕ) (o : Option (List ℕ)) → option_map (lowered j) (option_map (take 16) o) ≡ option_map (take 16) (option_map (lowered j) o)
-back_first j None = refl
-back_first j (Some l) = ap (λ (x : List ℕ). Some x) (take_lowered j l)
+beyond_first i it = grind (arith, take_prefix)
 
 pub cut_prefixed : (i : ℕ) (c : Census) (a : Totals) → c ≡ cut_off a → with_schedule c (option_map (λ l. take 16 (i ∷ l)) c.first_not_boot) ≡ cut_off (totals.prefixed i a)
 unfolding cut_off
-cut_prefixed i c a is =
-    ap (λ (x : Census). with_schedule x (option_map (λ l. take 16 (i ∷ l)) x.first_not_boot)) is ∙ ap (with_schedule (cut_off a)) (beyond_first i a.first)
+cut_prefixed i c a is = grind (arith, beyond_first)
 
 pub cut_lowered : (j : ℕ) (c : Census) (a : Totals) → c ≡ cut_off a → with_schedule c (option_map (lowered j) c.first_not_boot) ≡ cut_off (totals.first_lowered j a)
 unfolding cut_off
-cut_lowered j c a is =
-    ap (λ (x : Census). with_schedule x (option_map (lowered j) x.first_not_boot)) is ∙ ap (with_schedule (cut_off a)) (back_first j a.first)
+cut_lowered j c a is = grind arith
 
 -- The totals of rows are weights.
 
@@ -97,10 +86,7 @@ module _ {N : Type 0} (t : Tree N) (ended : N → Report) (e : Expectation) wher
 
   pub is_joined : (n : N) (most c : ℕ) (outcome : Outcome) (x : SharedTail) → own_totals t ended e (t.child n c) ≡ report_totals (shown outcome) → IsTailOf t ended e n c x
       → IsJoined (weigh_below t ended e n) (t.width n) most c outcome x
-  is_joined n most c outcome x own_is is = record {
-    inside = record { late = omega (arith, is.width, is.at_most); early = is.within };
-    weighs = λ d. tail_weighs n c x is d ∙ ap (λ a. merged a (shared_below totals (weigh_below t ended e n d) (t.width n) x.kept x.erases (index_in_parent x))) own_is;
-  }
+  is_joined n most c outcome x own_is is = grind (arith, tail_weighs)
 
 -- Lists of totals that are cut off.
 
@@ -180,47 +166,14 @@ first_is (row ∷ rows) at_most =
 
 pub same_numbers : (x y : Census) → x.schedules ≡ y.schedules → x.boot ≡ y.boot → x.none ≡ y.none → x.panic ≡ y.panic → x.fault ≡ y.fault → x.most_operations ≡ y.most_operations
     → x.first_not_boot ≡ y.first_not_boot → x ≡ y
-same_numbers x y a b c d e f h =
-    let same : ◌≡◌ {A = Census} (record {
-      schedules = x.schedules;
-      boot = x.boot;
-      none = x.none;
-      panic = x.panic;
-      fault = x.fault;
-      most_operations = x.most_operations;
-      first_not_boot = x.first_not_boot;
-    })
-    (record { schedules = y.schedules; boot = y.boot; none = y.none; panic = y.panic; fault = y.fault; most_operations = y.most_operations; first_not_boot = y.first_not_boot }) = cc in
-    same
+same_numbers x y a b c d e f h = grind arith
 
 -- The rows' totals, cut off, are their census.
 rows_census : (rows : List ShownRow) → ((row : ShownRow) → Contains rows row → length row.schedule ≤ 16) → cut_off (sum_of rows) ≡ census_by report_of path_of rows
 unfolding cut_off
-rows_census rows at_most =
-    same_numbers (cut_off (sum_of rows)) (census_by report_of path_of rows) (ap cut_number (many_are rows)) (ap cut_number (boots_are rows)) (ap cut_number (nones_are rows))
-    (ap cut_number (panics_are rows)) (ap cut_number (faults_are rows)) (most_is rows) (first_is rows at_most)
+rows_census rows at_most = grind (arith, many_are, boots_are, nones_are, panics_are, faults_are, most_is, first_is)
 
 -- ---- the tree
-
-abbrev first_by : Bool → List ℕ → Option (List ℕ)
-first_by b l = if b then None else Some l
-
-first_beyond : (b : Bool) (i : ℕ) (l : List ℕ) → first_by b (i ∷ l) ≡ option_map (λ l. i ∷ l) (first_by b l)
-first_beyond true i l = refl
-first_beyond false i l = refl
-
--- A row after one more step.
-row_prefixed : (i : ℕ) (l : List ℕ) (o : Report) → row_totals (record { schedule = i ∷ l; outcome = o }) ≡ totals.prefixed i (row_totals (record { schedule = l; outcome = o }))
-row_prefixed i l o =
-    ap (λ (first : Option (List ℕ)). record {
-      schedules = 1;
-      boot = count_if (is_boot o.result);
-      none = count_if (is_none o.result);
-      panic = count_if (is_panic o.result);
-      fault = count_if (is_fault o.result);
-      most = o.ops;
-      first = first;
-    }) (first_beyond (is_boot o.result) i l)
 
 module _ {N : Type 0} (t : Tree N) (ended : N → Report) (e : Expectation) where
   -- The row of a path from a node, as it counts.
@@ -228,10 +181,7 @@ module _ {N : Type 0} (t : Tree N) (ended : N → Report) (e : Expectation) wher
   counted_row n l = record { schedule = l; outcome = judged e (ended (landed t n l)) }
 
   rows_are_weighed : AreWeighed totals totals_weigh t (own_totals t ended e) row_totals counted_row
-  rows_are_weighed = record {
-    here = λ n. refl;
-    below = λ n i l. row_prefixed i l (counted_row (t.child n i) l).outcome;
-  }
+  rows_are_weighed = grind arith
 
   -- The rows of all paths are what the tree weighs.
   all_weigh : (bound : ℕ) (n : N) → total totals row_totals (map (counted_row n) (all_from t bound n)) ≡ weigh t ended e bound n
@@ -243,10 +193,7 @@ module _ {N : Type 0} (t : Tree N) (root : N) (ended : List ℕ → Report) (e :
   path_row l = record { schedule = l; outcome = judged e (ended l) }
 
   same_rows : (ls : List (List ℕ)) → map (counted_row (path_tree t root) ended e []) ls ≡ map path_row ls
-  same_rows [] = refl
-  same_rows (l ∷ ls) =
-      ap (λ (m : List ℕ). record { schedule = l; outcome = judged e (ended m) } ∷ map (counted_row (path_tree t root) ended e []) ls) (landed_path t root [] l)
-      ∙ ap (λ (rows : List ShownRow). path_row l ∷ rows) (same_rows ls)
+  same_rows it = grind (arith, landed_path)
 
   pub paths_census : (bound : ℕ) → bound ≤ 16 → cut_off (weigh (path_tree t root) ended e bound []) ≡ census_by report_of path_of (map path_row (all_from t bound root))
   paths_census bound at_most =

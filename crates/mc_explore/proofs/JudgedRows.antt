@@ -1,7 +1,7 @@
 -- Rows that pass a test, those that are right, one more of them, and the census of rows that are judged.
 use Rattle.std.proofs.Common.{Bool, List, None, Option, Some, [], ap, arith, cond, false, if◌then◌else◌, is_some, min, not, option_map, refl, sym, true, ◌+◌, ◌-◌, ◌&&◌, ◌++◌, ◌^◌, ◌∙◌, ◌∷◌, ◌≡◌}
 use Rattle.std.proofs.lemmas.List.Folds.{find-append}
-use Rattle.std.proofs.lemmas.List.Sums.{sum_by-append, sum_by-cons}
+use Rattle.std.proofs.lemmas.List.Sums.{sum_by-append}
 use Rattle.std.specs.List.{AllByRecursion, find}
 use Rattle.std.specs.Option.{option_or}
 use Rattle.std.specs.Prelude.{count_by}
@@ -46,9 +46,7 @@ module _ {R K : Type 0} (test : R → Bool) (key : R → K) where
   module _ (other : R → Bool) (same : (row : R) → test row ≡ other row) where
     pub same_number : (rows : List R) → count_by test rows ≡ count_by other rows
     same_number [] = refl
-    same_number (row ∷ rows) =
-        sum_by-cons (λ row. cond (test row) 1 0) row rows ∙ ap (λ b. cond b 1 0 + count_by test rows) (same row) ∙ ap (λ n. cond (other row) 1 0 + n) (same_number rows)
-        ∙ sym (sum_by-cons (λ row. cond (other row) 1 0) row rows)
+    same_number (row ∷ rows) = grind arith
 
     pub same_failing : (rows : List R) → first_failing rows ≡ option_map key (find (λ row. not (other row)) rows)
     same_failing [] = refl

@@ -1,42 +1,28 @@
 -- From one cut of a boot to the next, and the summary of the flash there.
-use Rattle.std.specs.Prelude.{◌≡◌, ℕ, ◌+◌, ◌<◌, ◌≤◌, List, [], ◌∷◌, length, None, Option, Some, Result, Ok, Err, IfErr, IfSome, refl}
+use Rattle.std.specs.Prelude.{◌≡◌, ℕ, ◌+◌, ◌<◌, List, [], ◌∷◌, length, None, Option, Some, Result, Ok, Err, IfErr, IfSome, refl}
 use Rattle.std.proofs.Common.{arith, sym, ap, subst, ◌∙◌}
-use Rattle.mc_flash.specs.Flash.{Content, IsSized}
+use Rattle.mc_flash.specs.Flash.{Content}
 use Rattle.mc_flash.specs.Geometry.{Geometry}
-use Rattle.mc_flash.specs.Usage.{most_operations, most_saved, Seen, Keeps, Spends, LeaveRoom, plus, room_of}
+use Rattle.mc_flash.specs.Usage.{Seen, Keeps, Spends, LeaveRoom, plus}
 use Rattle.mc_flash.specs.declared.op.Op.{Op}
 use Rattle.mc_flash.specs.declared.flash.FlashError.{FlashError}
 use Rattle.mc_flash.specs.declared.flash.FlashError.TheVariants as errors
 use Rattle.mc_trailer.specs.declared.tables.Rules.{Rules}
-use Rattle.mc_image.specs.Image.{IsBytes}
 use Rattle.mc_boot.specs.Joins.{IsCut}
-use Rattle.mc_boot.specs.Boot.{Progress, IsBootOf, StepsAlong, Steps, all_of, begun, progress, IsBounded, left_of, HasCome}
+use Rattle.mc_boot.specs.Boot.{Progress, IsBootOf, Steps, all_of, begun, progress, left_of, HasCome}
 use Rattle.mc_boot.specs.Outcome.{Report, outcome_of, shown, left_by, ops_of}
 use Rattle.mc_boot.specs.SharedTail.{IsSharedTail}
 use Rattle.mc_boot.specs.declared.shared_tail.SharedTail.{SharedTail}
 use Rattle.mc_boot.specs.Plan.{plan, PowerOn, again, power_on, powered}
 use Rattle.mc_boot.specs.facts.Run.{come_begun, come_left, come_ops}
-use Rattle.mc_boot.specs.facts.Steps.{refused_here, step_counts, step_ran_out, step_spends, stepped_here}
+use Rattle.mc_boot.specs.facts.Steps.{refused_here, step_counts, step_spends, stepped_here}
 use Rattle.mc_boot.specs.declared.boot.Boot.{Boot}
 use Rattle.mc_boot.specs.declared.outcome.Outcome.{Outcome}
 use Rattle.mc_walk.specs.TreeModel.{IsAt, IsChildOf, HasNext, ReachesNext}
-use Rattle.mc_explore.specs.inner.OneRound.{at_cut, CanPass, GoesOnIn, IsBegun, IsSummary, Passes, most_of, one_round}
+use Rattle.mc_explore.specs.inner.OneRound.{at_cut, CanPass, GoesOnIn, IsBegun, IsSummary, Passes, one_round}
 use Rattle.mc_explore.specs.Schedules.{EndsWith}
 use Rattle.mc_explore.specs.declared.one_round.Summary.{Summary}
 use Rattle.mc_explore.specs.facts.Occurring.{at_zero, come_lands}
-
--- At most one operation is done.
-step_once : (p q : Progress) (old new : Seen) (result : Result (Unit {0}) FlashError) → (result ≡ Err errors.Memory → ⊥) → Steps p old result q new → length p.to_come ≤ length q.to_come + 1
-    → new.usage.applied ≤ old.usage.applied + 1
-step_once p q old new result other steps near = omega (arith, near, (step_spends p q old new result other steps).applied)
-
--- After an operation that happened the others are to come.
-others_left : (p q : Progress) (old new : Seen) (v : Unit {0}) → Steps p old (Ok v) q new → length p.to_come ≤ length q.to_come + 1
-others_left p q old new v steps = at p.to_come refl steps
-  where
-    at : (ops : List Op) → p.to_come ≡ ops → StepsAlong ops p old (Ok v) q new → length p.to_come ≤ length q.to_come + 1
-    at [] is d = omega (arith, ap (λ (ops : List Op). length ops) is)
-    at (op ∷ rest) is d = omega (arith, ap (λ (ops : List Op). length ops) is, ap (λ (x : Progress). length x.to_come) d.0)
 
 -- Where a boot has come there, it has come on to here.
 abbrev pub ComesOn : Seen → Progress → Seen → Progress → Type 0
@@ -45,9 +31,7 @@ ComesOn f p new q = (x : Rules) (s : Content) → HasCome (power_on x f.geometry
 -- What is asked of a boot that was run to its end.
 pub ends_with : (f new : Seen) (p q : Progress) (outcome : Outcome) → Keeps f new → ComesOn f p new q → q.to_come ≡ []
     → ((x : Rules) (s : Content) → HasCome (power_on x new.geometry s) q new.content → q.to_come ≡ [] → outcome_of (power_on x new.geometry s) ≡ Some (shown outcome)) → EndsWith f p outcome
-ends_with f new p q outcome keeps come end summary = λ x s here.
-    let P : Geometry → Type 0 = λ y. HasCome (power_on x y s) q new.content in
-    ap (λ (y : Geometry). outcome_of (power_on x y s)) (sym keeps.geometry) ∙ summary x s (subst P (sym keeps.geometry) (come x s here)) end
+ends_with f new p q outcome keeps come end summary = grind arith
 
 module _ (r : Rules) (g : Geometry) where
   -- Something is to come of a boot that has not made all its operations.
@@ -62,9 +46,7 @@ module _ (r : Rules) (g : Geometry) where
 
   module _ (s : Content) (i : ℕ) (b b' : Boot) (old new : Seen) (at : IsAt (one_round r g) s i b old) (early : i < length (ops_of (power_on r g s))) where
     come_here : HasCome (power_on r old.geometry s) (progress b) old.content
-    come_here =
-        let P : Geometry → Type 0 = λ x. HasCome (power_on r x s) (progress b) old.content in
-        subst P (sym at.layout_is) (subst (HasCome (power_on r g s) (progress b)) (sym at.content_is) at.on_is.come)
+    come_here = grind arith
 
     early_here : (progress b).count < length (ops_of (power_on r old.geometry s))
     early_here = omega (arith, early, at.on_is.count_is, ap (λ (x : Geometry). length (ops_of (power_on r x s))) at.layout_is)
@@ -115,25 +97,12 @@ module _ (r : Rules) (g : Geometry) where
   -- And what it spends.
   pub pass_spends : (b b' : Boot) (old new : Seen) (result : Result (Unit {0}) FlashError) → CanPass r g b old → Steps (progress b) old result (progress b') new
       → ComesOn old (progress b) new (progress b') → Spends 1 old result new
-  pass_spends b b' old new (Ok v) has steps come =
-      let other : Ok v ≡ Err errors.Memory → ⊥ = λ e. absurd cc in
-      let s = step_spends (progress b) (progress b') old new (Ok v) other steps in
-      record {
-        applied = step_once (progress b) (progress b') old new (Ok v) other steps (others_left (progress b) (progress b') old new v steps);
-        limits = s.limits;
-        failed = s.failed;
-      }
-  pass_spends b b' old new (Err errors.NotErased) has steps come = absurd (not_refused has.0 has.1 b b' old new has.2 has.3 (Err errors.NotErased) steps come refl)
-  pass_spends b b' old new (Err errors.Memory) has steps come =
-      let P : Geometry → Type 0 = λ x. LeaveRoom old.usage.counts (left_of x (progress b)) (room_of old.usage.limits) in
-      step_ran_out (progress b) (progress b') old new (Err errors.Memory) refl steps (subst P (sym has.2.layout_is) has.4)
+  pass_spends b b' old new it has steps come = grind (arith, step_spends, not_refused)
 
   -- A step that fails has wanted memory.
   pub pass_wants : (b b' : Boot) (old new : Seen) (result : Result (Unit {0}) FlashError) → CanPass r g b old → Steps (progress b) old result (progress b') new
       → ComesOn old (progress b) new (progress b') → IfErr result (λ e. e ≡ errors.Memory)
-  pass_wants b b' old new (Ok v) has steps come = tt
-  pass_wants b b' old new (Err errors.Memory) has steps come = refl
-  pass_wants b b' old new (Err errors.NotErased) has steps come = absurd (not_refused has.0 has.1 b b' old new has.2 has.3 (Err errors.NotErased) steps come refl)
+  pass_wants b b' old new it has steps come = grind (arith, not_refused)
 
   -- A child has one more before it.
   pub can_pass : (b : Boot) (seen : Seen) → HasNext (one_round r g) b seen → CanPass r g b seen
@@ -148,32 +117,12 @@ module _ (r : Rules) (g : Geometry) where
   -- And that it was run.
   pub summary_of : (s : Content) (f : Seen) (b : Boot) (outcome : Outcome) → f.geometry ≡ g → f.content ≡ s → IsBegun r f b → outcome_of (power_on r g s) ≡ Some (shown outcome)
       → IsSummary (power_on r g s) (record { boot = b; outcome = outcome })
-  summary_of s f b outcome layout content begins is =
-      let plans : plan (powered r f) ≡ plan (power_on r g s) = ap (λ (x : Geometry). plan (power_on r x f.content)) layout ∙ ap (λ s. plan (power_on r g s)) content in
-      let P : List Op → Type 0 = λ ops. IsBounded g ops (most_of r g).entries (most_of r g).saved in
-      let Q : Geometry → Type 0 = λ x. IsSized x f.content in
-      let R : Geometry → Type 0 = λ x. IsBounded x (progress b).to_come (most_operations r.grain x) (most_saved x) in
-      record {
-        boot_is = begins.cold.boot ∙ ap (begun r) plans;
-        list_is = begins.cold.list ∙ ap (λ p. p.list) plans;
-        layout_is = subst (λ (x : Geometry). IsBootOf x b) layout begins.cold.layout;
-        at_most = subst P (ap (λ (p : Progress). p.to_come) (begins.cold.boot ∙ ap (begun r) plans)) (subst R layout (record { at_most = begins.cold.at_most; saves = begins.cold.saves }));
-        sized = subst (IsSized g) content (subst Q layout begins.cold.sized);
-        bytes = subst (λ (x : Content). IsBytes x.secondary) content begins.bytes;
-        outcome_is = is;
-      }
+  summary_of s f b outcome layout content begins is = grind arith
 
   -- A boot that was cut, where its outcome was found before it.
   pub cut_here : (s : Content) (i : ℕ) (b : Boot) (f : Seen) (summary : Summary) → IsAt (one_round r g) s i b f → i < length (ops_of (power_on r g s)) → IsSummary (power_on r g s) summary
       → IsCut (power_on r g s) (at_cut (power_on r g s) i) b (shown summary.outcome)
-  cut_here s i b f summary at early t = record {
-    sized = t.sized;
-    layout = at.on_is.layout_is;
-    list = at.on_is.list_is;
-    come = at.on_is.come;
-    early = omega (arith, early, at.on_is.count_is);
-    outcome = t.outcome_is;
-  }
+  cut_here s i b f summary at early t = grind arith
 
   -- A child whose boot goes on with that of its parent.
   pub joined_here : (s : Content) (i : ℕ) (b : Boot) (child parent : Summary) (f : Seen) (x : SharedTail) → IsAt (one_round r g) s i b f → i < length (ops_of (power_on r g s))
@@ -202,8 +151,7 @@ module _ (r : Rules) (g : Geometry) where
 
   -- Before the first operation.
   pub summary_still : (s : Content) (i : ℕ) (summary : Summary) → i ≡ 0 → IsSummary (power_on r g s) summary → IsSummary (power_on r g (at_cut (power_on r g s) i)) summary
-  summary_still s i summary none t =
-      subst (λ n. IsSummary (power_on r g (at_cut (power_on r g s) n)) summary) (sym none) (subst (λ x. IsSummary (power_on r g x) summary) (at_zero (power_on r g s)) t)
+  summary_still s i summary none t = grind (arith, at_zero)
 
   pub left_still : (s : Content) (i : ℕ) → i ≡ 0 → left_by (power_on r g (at_cut (power_on r g s) i)) ≡ left_by (power_on r g s)
   left_still s i none = ap (λ n. left_by (power_on r g (at_cut (power_on r g s) n))) none ∙ ap (λ s. left_by (power_on r g s)) (sym (at_zero (power_on r g s)))
@@ -214,9 +162,7 @@ module _ (r : Rules) (g : Geometry) where
     comes = let P : Progress → Type 0 = λ p. HasCome (powered r f) p f.content in subst P (sym begins.cold.boot) (come_begun (powered r f))
 
     pub summary_run : (outcome : Outcome) → EndsWith f (progress b) outcome → IsSummary (power_on r g f.content) (record { boot = b; outcome = outcome })
-    summary_run outcome ends =
-        let is : outcome_of (power_on r g f.content) ≡ Some (shown outcome) = ap (λ (x : Geometry). outcome_of (power_on r x f.content)) (sym layout) ∙ ends r f.content comes in
-        summary_of f.content f b outcome layout refl begins is
+    summary_run outcome ends = grind arith
 
     pub left_run : (q : Progress) (new : Seen) → ComesOn f (progress b) new q → q.to_come ≡ [] → left_by (power_on r g f.content) ≡ Some new.content
     left_run q new come end = ap (λ (x : Geometry). left_by (power_on r x f.content)) (sym layout) ∙ come_left (powered r f) q new.content (come r f.content comes) end
@@ -226,7 +172,4 @@ module _ (r : Rules) (g : Geometry) where
         → IsSummary (power_on r g s) parent
         → ((x : PowerOn) (u : Content) → IsCut x u at (shown parent.outcome) → IsBootOf x.geometry b → progress b ≡ begun x.rules (plan (again x u)) → P x u)
         → P (power_on r g s) (at_cut (power_on r g s) i)
-    cut_so P s i at parent here early summary holds =
-        let plans = ap (λ (x : Geometry). plan (power_on r x f.content)) layout ∙ ap (λ s. plan (power_on r g s)) here.content_is in
-        holds (power_on r g s) (at_cut (power_on r g s) i) (cut_here s i at f parent here early summary) (subst (λ (x : Geometry). IsBootOf x b) layout begins.cold.layout)
-        (begins.cold.boot ∙ ap (begun r) plans)
+    cut_so P s i at parent here early summary holds = grind arith

@@ -1,7 +1,6 @@
 -- The rows of a page, as they are taken one after another.
 use Rattle.std.specs.Prelude.{nat_le, if◌then◌else◌, Bool, true, false, ◌∷◌, ◌<◌, ◌⊎◌, Contains}
 use Rattle.std.proofs.Common.{◌≡◌, ℕ, suc, ◌+◌, ◌*◌, ◌≤◌, List, [], ◌++◌, length, drop, Some, None, Option, refl, sym, ap, subst, ◌∙◌, append_assoc, append-nil, arith, inl, inr}
-use Rattle.std.proofs.lemmas.Bool.{cases_lt}
 use Rattle.std.proofs.lemmas.Bool.Decides.{nat_tests}
 use Rattle.std.proofs.lemmas.List.{take_all, take_at, length-append}
 use Rattle.std.proofs.lemmas.List.Elements.{All-nil, All-cons, All-head, All-tail, All-same, All-weaker, All-contains_itself}
@@ -17,10 +16,7 @@ none_first : (n : ℕ) → nat_le 0 n ≡ true
 none_first n = grind (arith, nat_tests)
 
 one_less : (k n : ℕ) → nat_le (suc k) (suc n) ≡ nat_le k n
-one_less k n = elim (cases_lt n k) [
-  | inl less ↦ let a : nat_le (suc k) (suc n) ≡ false = grind (arith, nat_tests) in let b : nat_le k n ≡ false = grind (arith, nat_tests) in a ∙ sym b
-  | inr more ↦ let a : nat_le (suc k) (suc n) ≡ true = grind (arith, nat_tests) in let b : nat_le k n ≡ true = grind (arith, nat_tests) in a ∙ sym b
-]
+one_less k n = grind arith
 
 not_full : (k : ℕ) → nat_le (suc k) 0 ≡ false
 not_full k = grind (arith, nat_tests)
@@ -34,16 +30,11 @@ module _ {S K R C : Type 0} (l : Listing S K R C) where
 
   -- Fewer rows than there is room for.
   short_page : (state : S) (limit : ℕ) (rows : List R) → length rows < limit → page_with state rows false ≡ page_at l state limit rows
-  short_page state limit rows short =
-      let at_most : nat_le limit (length rows) ≡ false = grind (arith, nat_tests) in
-      sym (ap (λ z. page_with state z (nat_le limit (length rows))) (take_all limit rows (omega (arith, short))) ∙ ap (λ b. page_with state rows b) at_most)
+  short_page state limit rows short = grind (arith, take_all)
 
   -- As many rows as there is room for.
   full_page : (state : S) (limit : ℕ) (rows more : List R) → length rows ≡ limit → page_with state rows true ≡ page_at l state limit (rows ++ more)
-  full_page state limit rows more full =
-      let enough : limit ≤ length (rows ++ more) = omega (arith, full, length-append rows more) in
-      let many : nat_le limit (length (rows ++ more)) ≡ true = grind (arith, nat_tests) in
-      sym (ap (λ z. page_with state z (nat_le limit (length (rows ++ more)))) (take_at rows more limit full) ∙ ap (λ b. page_with state rows b) many)
+  full_page state limit rows more full = grind (arith, length-append, take_at)
 
   -- ---- how many rows are taken
 

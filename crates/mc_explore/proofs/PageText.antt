@@ -14,8 +14,7 @@ use Rattle.std.proofs.KnownBytes.{Appends-trans}
 -- ---- texts that are out
 
 Appends_none : (a : Option (List ℕ)) → Appends a a []
-Appends_none None = tt
-Appends_none (Some xs) = sym (append-nil xs)
+Appends_none it = grind (arith, append-nil)
 
 -- A line of the page is out in part, and what stood before it is out.
 prefix_of : (a b c : Option (List ℕ)) (page text line more : List ℕ) → page ≡ text ++ (line ++ more) → Appends a b text → AppendsPrefix b c line → AppendsPrefix a c page
@@ -46,10 +45,7 @@ module _ {S K R C : Type 0} (l : Listing S K R C) where
   -- The text of a page of which the first rows are known.
   known_text : (state : S) (limit room : ℕ) (some left shown : List R) → shown ≡ some ++ left → limit ≡ length some + room
       → page_text l (page_at l state limit shown) ≡ lines some ++ (lines (take room left) ++ last_line l (page_at l state limit shown).goes_on)
-  known_text state limit room some left shown is room_is =
-      let last : List ℕ = last_line l (page_at l state limit shown).goes_on in
-      let rows : take limit shown ≡ some ++ take room left = ap (λ z. take limit z) is ∙ ap (λ n. take n (some ++ left)) room_is ∙ take-append-add some left room in
-      ap (λ z. lines z ++ last) rows ∙ ap (λ z. z ++ last) (flat_map-append (row_line l) some (take room left)) ∙ append_assoc (lines some) (lines (take room left)) last
+  known_text state limit room some left shown is room_is = grind (arith, take-append-add, flat_map-append, append_assoc)
 
 module _ {S K R C : Type 0} (l : Listing S K R C) (laws : IsLawful l) (until : Option K) (old : S) (limit : ℕ) (before : Option (List ℕ)) where
   -- The lines of these rows are out, and after the last of them one has come.

@@ -1,16 +1,16 @@
 -- A walk that passes the nodes below a node, child by child.
-use Rattle.std.proofs.Common.{Bool, IfSome, List, None, Option, Some, [], ap, append-nil, append_assoc, arith, false, refl, subst, suc, sym, true, zero, ℕ, ◌++◌, ◌+◌, ◌∙◌, ◌∷◌, ◌≡◌, ◌≤◌}
+use Rattle.std.proofs.Common.{Bool, IfSome, List, None, Option, Some, [], ap, append-nil, append_assoc, arith, false, subst, suc, sym, true, zero, ℕ, ◌++◌, ◌+◌, ◌∙◌, ◌∷◌, ◌≡◌, ◌≤◌}
 use Rattle.mc_boot.specs.Outcome.{Report}
 use Rattle.mc_boot.specs.declared.shared_tail.SharedTail.{SharedTail}
 use Rattle.mc_explore.proofs.Counting.{Census}
 use Rattle.mc_explore.specs.Right.{judged}
 use Rattle.mc_explore.specs.declared.expectation.Expectation.{Expectation}
 use Rattle.std.proofs.lemmas.List.{same_from_push}
-use Rattle.mc_explore.specs.facts.Children.{HasCome, child_here, IsAtChild, here_too, there_too}
+use Rattle.mc_explore.specs.facts.Children.{HasCome, child_here, IsAtChild, here_too}
 use Rattle.mc_explore.specs.inner.Table.{HasWeights, IsTailOf, PassesBelow, ReachesChild, own_totals, paths_of, weigh}
 use Rattle.mc_explore.specs.inner.Totals.{cut_off, report_totals}
 use Rattle.mc_flash.specs.Flash.{Content}
-use Rattle.mc_tree.specs.Tree.{Allowed, Beyond, landed}
+use Rattle.mc_tree.specs.Tree.{Allowed, landed}
 use Rattle.mc_tree.specs.facts.Order.{HasPassed, next_child, passed_all, some_child}
 use Rattle.mc_tree.specs.inner.Weights.{path_tree}
 use Rattle.mc_walk.specs.TreeModel.{IsChildOf, TreeModel}
@@ -51,20 +51,7 @@ module _ {N A T B : Type 0} (model : B → TreeModel N A T) (old : Walked B) whe
 
   module _ (number : ℕ) (at : Walked B) (here : IsAtChild model old number at) where
     pub come_below : (now : Walked B) → PassesBelow (model at.flash_tree) at now → HasCome model old (suc number) now
-    come_below now below = record {
-      same = record {
-        flash_tree = below.same.flash_tree ∙ here.same.flash_tree;
-        bound = below.same.bound ∙ here.same.bound;
-        origin = below.same.origin ∙ here.same.origin;
-      };
-      limits = below.limits ∙ here.limits;
-      stands = below.stands;
-      passed = (
-        below.more,
-        below.path_is ∙ ap (λ (l : List ℕ). l ++ below.more) here.path ∙ append_assoc old.path (number ∷ []) below.more,
-        λ m allowed beyond. subst (λ (l : List ℕ). Beyond l m) here.path (below.beyond m (there_too model old at here.same (λ b c. Allowed (model b).tree ((model b).root c) m) allowed) beyond),
-      );
-    }
+    come_below now below = grind (arith, append_assoc)
 
     -- What is known of it there is known of that child.
     module _ (report_of : B → Content → List ℕ → Report) (e : Expectation) where
@@ -74,34 +61,21 @@ module _ {N A T B : Type 0} (model : B → TreeModel N A T) (old : Walked B) whe
 
       pub weights_there : (bound : ℕ) (column : List Census) → HasWeights (paths_of (model at.flash_tree) at) (report_of at.flash_tree (origin_of at.seen)) e at.path bound column
           → HasWeights (paths_of k old) (report_of old.flash_tree (origin_of old.seen)) e (old.path ++ number ∷ []) bound column
-      weights_there bound column weights =
-          subst (λ l. HasWeights (paths_of k old) (report_of old.flash_tree (origin_of old.seen)) e l bound column) here.path
-          (here_too model old at here.same (λ b c. HasWeights (path_tree (model b).tree ((model b).root c)) (report_of b c) e at.path bound column) weights)
+      weights_there bound column weights = grind arith
 
       pub own_there : (report judged_report : Report) → report ≡ report_of at.flash_tree (origin_of at.seen) at.path → judged_report ≡ judged e report
           → own_totals (paths_of k old) (report_of old.flash_tree (origin_of old.seen)) e (old.path ++ number ∷ []) ≡ report_totals judged_report
-      own_there report judged_report is judged_is =
-          let is_here : report ≡ report_of old.flash_tree (origin_of old.seen) at.path = here_too model old at here.same (λ b c. report ≡ report_of b c at.path) is in
-          sym (ap report_totals judged_is ∙ ap (λ o. report_totals (judged e o)) (is_here ∙ ap (report_of old.flash_tree (origin_of old.seen)) here.path))
+      own_there report judged_report is judged_is = grind arith
 
   -- At the root of the walk.
   pub root_weighs : (now : Walked B) (report_of : B → Content → List ℕ → Report) (e : Expectation) (bound : ℕ) (census : Census) → IsSame old now → now.path ≡ []
       → census ≡ cut_off (weigh (paths_of (model now.flash_tree) now) (report_of now.flash_tree (origin_of now.seen)) e bound now.path)
       → census ≡ cut_off (weigh (path_tree k.tree root) (report_of old.flash_tree (origin_of old.seen)) e bound [])
-  root_weighs now report_of e bound census same none is =
-      here_too model old now same (λ b c. census ≡ cut_off (weigh (path_tree (model b).tree ((model b).root c)) (report_of b c) e bound now.path)) is
-      ∙ ap (λ l. cut_off (weigh (path_tree k.tree root) (report_of old.flash_tree (origin_of old.seen)) e bound l)) none
+  root_weighs now report_of e bound census same none is = grind arith
 
   -- The walk has passed all that lies below the node, also where it goes nowhere.
   pub passes_none : old.stands ≡ true → PassesBelow k old old
-  passes_none stands = record {
-    same = record { flash_tree = refl; bound = refl; origin = refl };
-    limits = refl;
-    stands = stands;
-    more = [];
-    path_is = sym (append-nil old.path);
-    beyond = λ m allowed beyond. beyond;
-  }
+  passes_none stands = grind (arith, append-nil)
 
   pub passes_all : (number : ℕ) (now : Walked B) → number ≡ k.tree.width (landed k.tree root old.path) → HasCome model old number now → PassesBelow k old now
   passes_all number now all come = record {

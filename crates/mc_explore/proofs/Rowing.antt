@@ -1,5 +1,5 @@
 -- The next row, by how a tour stands with the last one, also where the outcomes of last cuts are kept.
-use Rattle.std.proofs.Common.{add-one, ap, arith, inl, inr, length-append, subst, sym, ◌∙◌}
+use Rattle.std.proofs.Common.{add-one, ap, arith, length-append, subst, sym, ◌∙◌}
 use Rattle.std.proofs.lemmas.Option.{slice_get_cases, slice_get_within}
 use Rattle.std.specs.Prelude.{Bool, IfSome, IsSomeAnd, List, None, Option, Some, [], false, is_some, option_map, length, refl, slice_get, suc, true, zero, ℕ, ◌++◌, ◌+◌, ◌<◌, ◌^◌, ◌∷◌, ◌≡◌, ◌≢◌, ◌≤◌}
 use Rattle.std.proofs.lemmas.List.{same_from_push}
@@ -25,23 +25,21 @@ use Rattle.mc_explore.specs.inner.OneRound.{IsSummary, at_cut, boots, one_round}
 use Rattle.mc_flash.specs.Flash.{Content}
 use Rattle.mc_flash.specs.Geometry.{Geometry}
 use Rattle.mc_trailer.specs.declared.tables.Rules.{Rules}
-use Rattle.mc_tree.specs.Tree.{After, IsNext, IsOver, Position, landed}
+use Rattle.mc_tree.specs.Tree.{After, IsNext, Position, landed}
 use Rattle.mc_tree.specs.facts.Order.{allowed-push, landed-push, next_after, next_below}
 use Rattle.mc_walk.specs.TreeModel.{IsAt, TreeModel}
 use Rattle.mc_walk.specs.Walks.{IsLastStep, IsPath, IsThere, Toured, Visits, Walked, origin_of, position_of, root_of}
 use Rattle.mc_walk.specs.declared.frame.Frame.{Frame}
 use Rattle.mc_walk.specs.declared.tour.Phase.{Phase}
 use Rattle.mc_walk.specs.declared.tour.Phase.TheVariants.{Broken, Done, Fresh, Going}
-use Rattle.mc_walk.specs.facts.Same.{over_there, path_back, same_back}
+use Rattle.mc_walk.specs.facts.Same.{path_back, same_back}
 
 -- The outcomes at the cuts of one boot, and the rows of the boots that go on with it.
 
 module _ (from : PowerOn) where
   -- A cut before the first operation leaves the flash as it is.
   flash_twice : (of : List ℕ) (last : ℕ) → flash_at from ((of ++ 0 ∷ []) ++ last ∷ []) ≡ at_cut (again from (flash_at from of)) last
-  flash_twice of last =
-      landed-push (boots from.rules from.geometry) from.content (of ++ 0 ∷ []) last
-      ∙ ap (λ s. at_cut (again from s) last) (landed-push (boots from.rules from.geometry) from.content of 0 ∙ sym (at_zero (again from (flash_at from of))))
+  flash_twice of last = grind (arith, landed-push, at_zero)
 
   pub none_kept : (of : List ℕ) (outcomes : List Outcome) → outcomes ≡ [] → AreAtCuts from of outcomes
   none_kept of outcomes none i o is = absurd (omega (arith, slice_get_within outcomes i o is, ap length none))
@@ -73,9 +71,7 @@ module _ (w : Walked OneRound) (f : Frame Boot Summary) (summary : Summary) (of 
   before_is = ap (flash_at (power_on r g (origin_of w.seen))) (same_from_push step.before of f.number last (sym step.path_is ∙ sym path_is ∙ split)).0
 
   here_is : flash_at (power_on r g (origin_of w.seen)) path ≡ at_cut (power_on r g before) f.number
-  here_is =
-      ap (flash_at (power_on r g (origin_of w.seen))) (path_is ∙ step.path_is) ∙ landed-push (boots r g) (origin_of w.seen) step.before f.number
-      ∙ ap (λ s. at_cut (power_on r g s) f.number) before_is
+  here_is = grind (arith, before_is)
 
   pub last_cuts_there : (outcomes : List Outcome) (x : SharedTail)
       → ((y : Rules) (v : Content) (whole : Report) → IsCut (power_on y w.seen.geometry v) w.seen.content f.at whole → progress summary.boot ≡ begun y (plan (powered y w.seen))
@@ -104,16 +100,9 @@ module _ (x : PowerOn) (of path : List ℕ) (outcomes : List Outcome) (shared_ta
   early : next < length (ops_of (again x (flash_at x path)))
   early = omega (arith, lt, are.count_is)
 
-  within_there : index_in_parent shared_tail next < length outcomes
-  within_there = omega (arith, are.with_shared_tail.within next early, are.whole)
-
   pub outcome_there : (found : Option Outcome) → AreAtCuts x of outcomes → found ≡ slice_get outcomes (index_in_parent shared_tail next)
       → IsSomeAnd found (λ o. outcome_of (again x (flash_at x (path ++ next ∷ []))) ≡ Some (shown o))
-  outcome_there None at is =
-      absurd (elim (slice_get_cases outcomes (index_in_parent shared_tail next)).1 [
-        | inl w ↦ let e : None ≡ Some w.0 = is ∙ w.2 in cc
-        | inr w ↦ omega (arith, w.0, within_there)
-      ])
+  outcome_there None at is = grind (arith, slice_get_cases)
   outcome_there (Some o) at is =
       let r = x.rules in
       let g = x.geometry in
@@ -133,11 +122,6 @@ some_found shown P Q (Some s) is there = there (shown s) is
 
 module _ {B N A T H E : Type 0} (model : B → TreeModel N A T) (holds : B → Content → H → Type 0) (is_ahead : B → Content → H → List ℕ → E → ℕ → Type 0) where
   -- Where no further path is, the position is after the last one.
-  pub over_beyond : (w : Walked B) (p : Phase) (l : List ℕ) → IsOver (IsPath (model w.flash_tree) w) (position_of p l) → p ≢ Broken → position_of p l ≡ After l
-  over_beyond w Fresh l over works = absurd (over [] (omega arith, tt) tt)
-  over_beyond w Going l over works = refl
-  over_beyond w Done l over works = refl
-  over_beyond w Broken l over works = absurd (works refl)
 
   -- A row ahead is to come.
   module _ (t : Toured B) (kept : H) (path : List ℕ) (x : RowsAhead E) (inv : IsRowing model holds is_ahead t kept path (Some x)) (lt : x.next < x.count) where
@@ -237,11 +221,6 @@ module _ {B N A T H E : Type 0} (model : B → TreeModel N A T) (holds : B → C
       pub listed_there : IsPath (model new.walk.flash_tree) new.walk new.walk.path
       listed_there = path_back model new.walk t.walk new.walk.path (same_back model t.walk new.walk v.1) v.0.listed
 
-      -- What was kept serves there.
-      kept_there : holds new.walk.flash_tree (origin_of new.walk.seen) kept
-      kept_there =
-          subst (λ b. holds b (origin_of new.walk.seen) kept) (sym v.1.flash_tree) (subst (λ c. holds t.walk.flash_tree c kept) (sym v.1.origin) (inv.sound works).holds_there)
-
       -- The rows ahead of that node.
       module _ (kept' : H) (path' : List ℕ) (ahead' : Option (RowsAhead E)) (a : HasArrived new.walk kept kept' path' ahead') where
         beyond : (o : Option (RowsAhead E)) → IfSome o (AreFresh model holds is_ahead new.walk kept' path') → IfSome o (AreBeyond model is_ahead new.walk kept' path')
@@ -259,28 +238,9 @@ module _ {B N A T H E : Type 0} (model : B → TreeModel N A T) (holds : B → C
         path_next = subst (IsNext (IsPath (model t.walk.flash_tree) t.walk) here) (sym last_next) v.0
 
         pub rowing_next : IsRowing model holds is_ahead new kept' path' ahead'
-        rowing_next = record {
-          spent = λ is. absurd (let e : Broken ≡ Going = sym is ∙ v.2 in cc);
-          sound = λ w. record {
-            at_most = few_next;
-            holds_there = a.keeps kept_there;
-            stands = subst (IsAtPhase model holds is_ahead new.walk kept' path' ahead') (sym v.2) (a.path_is, beyond ahead' a.are);
-          };
-        }
+        rowing_next = grind arith
 
     -- Or there is none.
     module _ (new : Toured B) (v : Visits (model t.walk.flash_tree) t here false new) where
       pub rowing_over : IsRowing model holds is_ahead new kept path ahead
-      rowing_over = record {
-        spent = λ is. spent;
-        sound = λ w. record {
-          at_most = omega (arith, (inv.sound works).at_most, v.2.bound);
-          holds_there = subst (λ b. holds b (origin_of new.walk.seen) kept) (sym v.2.flash_tree)
-              (subst (λ c. holds t.walk.flash_tree c kept) (sym v.2.origin) (inv.sound works).holds_there);
-          stands = subst (IsAtPhase model holds is_ahead new.walk kept path ahead) (sym v.3) (
-            over_there model t.walk new.walk (After (last_of path ahead)) v.2
-                (subst (IsOver (IsPath (model t.walk.flash_tree) t.walk)) (over_beyond t.walk t.phase (last_of path ahead) v.0 works) v.0),
-            spent,
-          );
-        };
-      }
+      rowing_over = grind arith

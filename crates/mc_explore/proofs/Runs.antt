@@ -281,12 +281,7 @@ module _ (k i : ℕ) (c p : Census) (a : Totals) (c_is : c ≡ cut_off a) (p_is 
   times_is : (count : ℕ) (of : Census → ℕ) (in_all : Totals → ℕ) (x : ℕ) → count ≡ suc k → of (cut_off a) ≡ cut_number (in_all a) → in_all all_of ≡ suc k * in_all a
       → x ≡ min (of c * count) (2 ^ 128 - 1) → x ≡ cut_number (in_all all_of)
   unfolding cut_number
-  times_is count of in_all x many here times is =
-      is
-      ∙ ap (λ n. min (of c * n) (2 ^ 128 - 1)) many
-      ∙ ap (λ n. min (n * suc k) (2 ^ 128 - 1)) (ap of c_is ∙ here)
-      ∙ cut_times (2 ^ 128 - 1) (in_all a) k
-      ∙ ap (λ n. min n (2 ^ 128 - 1)) (sym times)
+  times_is count of in_all x many here times is = grind (arith, cut_times)
 
   repeated_census : (count : ℕ) (r : Census) → count ≡ suc k → r.schedules ≡ min (c.schedules * count) (2 ^ 128 - 1) → r.boot ≡ min (c.boot * count) (2 ^ 128 - 1)
       → r.none ≡ min (c.none * count) (2 ^ 128 - 1) → r.panic ≡ min (c.panic * count) (2 ^ 128 - 1) → r.fault ≡ min (c.fault * count) (2 ^ 128 - 1)

@@ -10,14 +10,13 @@ use Rattle.std.proofs.Math.Seq.{take-append-add}
 use Rattle.std.proofs.lemmas.Fmt.{decimal_injective}
 use Rattle.mc_flash.specs.Geometry.{IsLayout}
 use Rattle.mc_flash.specs.facts.Usage.{few_operations}
-use Rattle.mc_trailer.specs.Tables.{type_text}
 use Rattle.mc_tree.specs.Tree.{Allowed}
 use Rattle.mc_tree.specs.facts.Lists.{at_head, in_rest}
-use Rattle.mc_boot.specs.Outcome.{ops_of, result_text}
+use Rattle.mc_boot.specs.Outcome.{ops_of}
 use Rattle.mc_explore.specs.inner.OneRound.{at_cut, boots}
 use Rattle.mc_start.specs.Cursor.{cursor_text}
 use Rattle.mc_explore.specs.Page.{row_line, last_line}
-use Rattle.mc_explore.specs.Rows.{IsRest, row_text, slot_text, State, ShownRow, moved_to, schedules}
+use Rattle.mc_explore.specs.Rows.{IsRest, row_text, State, ShownRow, moved_to, schedules}
 use Rattle.mc_start.specs.Start.{IsSchedule, schedule_text}
 use Rattle.mc_explore.specs.Survey.{AreLines, IsRowLine, AreRowLines, HasRows, IsOfLast, IsLastRow, Continues}
 use Rattle.mc_start.specs.declared.cursor.Cursor.{Cursor}
@@ -43,10 +42,7 @@ no_point : (x : ℕ) (xs : List ℕ) → Small (x ∷ xs) → Lacks 46 (decimal 
 no_point x xs small = lacks_decimal 46 point_no_digit x (All-head (λ c. c < 2 ^ 32) x xs small)
 
 same_number : (x y : ℕ) (xs ys : List ℕ) → Small (x ∷ xs) → Small (y ∷ ys) → decimal x ≡ decimal y → x ≡ y
-same_number x y xs ys p q e =
-    let a = All-head (λ c. c < 2 ^ 32) x xs p in
-    let b = All-head (λ c. c < 2 ^ 32) y ys q in
-    decimal_injective x y (omega (arith, a)) (omega (arith, b)) e
+same_number x y xs ys p q e = grind (arith, decimal_injective)
 
 same_numbers : (c d : ℕ) (cs ds : List ℕ) → Small (c ∷ cs) → Small (d ∷ ds) → decimal c ++ points cs ≡ decimal d ++ points ds → (c ≡ d) × (cs ≡ ds)
 same_numbers c d [] [] p q e = (same_number c d [] [] p q (sym (append-nil (decimal c)) ∙ e ∙ append-nil (decimal d)), refl)
@@ -105,8 +101,7 @@ same_row_lines (line ∷ lines) xs ys (inr (none, p)) (inl (l, more, row, is, q)
 same_row_lines (line ∷ lines) xs ys (inr (none, p)) (inr (none', q)) = same_row_lines lines xs ys p q
 
 same_rows : (text : List ℕ) (xs ys : List (List ℕ)) → HasRows text xs → HasRows text ys → xs ≡ ys
-same_rows text xs ys p q =
-    same_row_lines p.lines xs ys p.rows (subst (λ z. AreRowLines z ys) (same_lines text q.lines p.lines q.whole p.whole) q.rows)
+same_rows text xs ys p q = grind (arith, same_row_lines, same_lines)
 
 -- No schedule is read of a text of which only that would be read.
 pub unread : {E : Type 0} (r : Result (List ℕ) E) (o : Option (List ℕ)) (P : List ℕ → Type 0) → o ≡ result_ok r → ((l : List ℕ) → P l → r ≡ Ok l) → IfNone o ((l : List ℕ) → P l → ⊥)
@@ -211,11 +206,7 @@ other_on line rest found none not h = record { lines = line ∷ h.lines; whole =
 
 -- The text of a row is a row line of its schedule.
 row_line_is : (row : ShownRow) → IsSchedule row.schedule → IsRowLine row.schedule (row_text row)
-row_line_is row ok =
-    let o = row.outcome in
-    let prefix : List ℕ = result_text o.result ++ (codes " " ++ (type_text o.kind ++ (codes " " ++ decimal o.ops))) in
-    let back : List ℕ = codes " " ++ (slot_text o.primary ++ (codes " " ++ (slot_text o.secondary ++ (codes " " ++ type_text o.next)))) in
-    record { schedule = ok; rest = prefix ++ back; parts = append_assoc (schedule_text row.schedule) (codes " " ++ prefix) back; first_space = no_space row.schedule }
+row_line_is row ok = grind (arith, append_assoc, no_space)
 
 -- The last line of a page, without its line feed, is none.
 closing : Option Cursor → List ℕ

@@ -1,16 +1,15 @@
 -- The row that a tour comes to is the one of the next key.
-use Rattle.std.specs.Prelude.{◌≡◌, ◌≢◌, ℕ, Bool, List, [], refl}
-use Rattle.std.proofs.Common.{arith, sym, ap, subst, ◌∙◌, None, Option, Some}
+use Rattle.std.specs.Prelude.{◌≡◌, ◌≢◌, ℕ, Bool, List}
+use Rattle.std.proofs.Common.{arith, sym, subst, None, Option, Some}
 use Rattle.mc_tree.specs.Tree as tree
 use Rattle.mc_tree.specs.Tree.{After, IsNextIn, IsOverIn, IsPastIn, Position}
 use Rattle.mc_flash.specs.Flash.{Content}
-use Rattle.mc_flash.specs.Usage.{Limits}
 use Rattle.mc_walk.specs.TreeModel.{TreeModel}
-use Rattle.mc_walk.specs.Walks.{position_of, Walked, IsPath, IsSame, origin_of}
+use Rattle.mc_walk.specs.Walks.{position_of, Walked, IsSame, origin_of}
 use Rattle.mc_walk.specs.declared.tour.Phase.{Phase}
 use Rattle.mc_walk.specs.declared.tour.Phase.TheVariants as phases
 use Rattle.mc_boot.specs.Plan.{PowerOn}
-use Rattle.mc_explore.specs.inner.Exploring.{AreKeys, FindsRow, IsBeyond, IsOurs, IsSound, Rowed, begun_of, state_of}
+use Rattle.mc_explore.specs.inner.Exploring.{AreKeys, FindsRow, IsBeyond, IsSound, Rowed, begun_of, state_of}
 use Rattle.mc_explore.specs.Subject as states
 use Rattle.mc_explore.specs.Subject.{Finds, moved_to, Subject, IsRowAt}
 
@@ -46,40 +45,17 @@ module _ {B C K R U N A T : Type 0} (x : Subject C K R U) (model : B → TreeMod
 
     pub over_key : (p : Phase) → tree.IsOver (tree.IsMember (model b).tree ((model b).root c) bound) (position_of p path)
         → IsOverIn x.Before (x.IsListed (begins b c) (choice b) bound) (position_of p (key_of b c path))
-    over_key p over = λ k listed past.
-        let there = (keys b c).path_of bound k listed in
-        over there.0 there.1 (past_there p there.0 there.1 (subst (IsPastIn x.Before (position_of p (key_of b c path))) (sym there.2) past))
+    over_key p over = grind (arith, past_there)
 
   -- ---- the same walk, elsewhere
 
   module _ (old new : Walked B) (s : IsSame old new) where
-    pub carried : (P : B → ℕ → Content → Type 0) → P old.flash_tree old.bound (origin_of old.seen) → P new.flash_tree new.bound (origin_of new.seen)
-    carried P p =
-        subst (λ b. P b new.bound (origin_of new.seen)) (sym s.flash_tree) (subst (λ n. P old.flash_tree n (origin_of new.seen)) (sym s.bound) (subst (P old.flash_tree old.bound) (sym s.origin) p))
-
     pub same_begun : begun_of begins new ≡ begun_of begins old
     same_begun = cc (s.flash_tree, s.origin)
 
-    pub same_key : (l : List ℕ) → key_of new.flash_tree (origin_of new.seen) l ≡ key_of old.flash_tree (origin_of old.seen) l
-    same_key l = cc (s.flash_tree, s.origin)
-
-    pub same_state : (position : Position K) → new.seen.usage.failed ≡ old.seen.usage.failed → state_of begins choice new position ≡ state_of begins choice old position
-    same_state position no_allocation_failed = cc (s.flash_tree, s.origin, s.bound, no_allocation_failed)
-
-    pub ours_there : (counted : Bool) (start : PowerOn) (chosen : C) (bound : ℕ) → IsOurs begins choice counted start chosen bound old → new.seen.usage.limits ≡ old.seen.usage.limits
-        → IsOurs begins choice counted start chosen bound new
-    ours_there counted start chosen bound ours limits = record {
-      start_is = same_begun ∙ ours.start_is;
-      choice_is = ap choice s.flash_tree ∙ ours.choice_is;
-      bound_is = s.bound ∙ ours.bound_is;
-      at_most = ours.at_most;
-      counted_is = ap (λ (y : Limits). y.counted) limits ∙ ours.counted_is;
-    }
-
     -- A row that a walk gives of its path is one of where it began.
     pub row_back : (path : List ℕ) (row : R) → IsRowAt x begins choice key_of new.flash_tree (origin_of new.seen) path row → IsRowAt x begins choice key_of old.flash_tree (origin_of old.seen) path row
-    row_back path row at =
-        subst (λ c. IsRowAt x begins choice key_of old.flash_tree c path row) s.origin (subst (λ b. IsRowAt x begins choice key_of b (origin_of new.seen) path row) s.flash_tree at)
+    row_back path row at = grind arith
 
   -- ---- what is found
 
@@ -113,18 +89,10 @@ module _ {B C K R U N A T : Type 0} (x : Subject C K R U) (model : B → TreeMod
 
       module _ (k : K) (is : k ≡ x.key row) where
         pub moved_on : state_of begins choice new.walk (position_of new.phase k) ≡ moved_to (state_of begins choice w here) (x.key row)
-        moved_on =
-            ap (λ p. state_of begins choice new.walk (position_of p k)) f.finds.3 ∙ same_state w new.walk f.finds.2 (After k) f.failed
-            ∙ ap (λ z. moved_to (state_of begins choice w here) z) is
+        moved_on = grind arith
 
         pub sound_on : IsSound model begins choice key_of counted start chosen bound new k
-        sound_on = λ _. (
-          ours_there w new.walk f.finds.2 counted start chosen bound (f.sound f.works).0 f.limits,
-          record {
-            listed = carried w new.walk f.finds.2 (λ b n c. tree.IsMember (model b).tree ((model b).root c) n new.last) f.finds.0.listed;
-            key_is = same_key w new.walk f.finds.2 new.last ∙ sym (is ∙ f.finds.1.0);
-          },
-        )
+        sound_on = grind arith
 
     -- Or there is none.
     module _ (f : Found counted start chosen bound old new last None) where
@@ -132,32 +100,10 @@ module _ {B C K R U N A T : Type 0} (x : Subject C K R U) (model : B → TreeMod
       before = (f.sound f.works).1
 
       pub finds_none : states.IsOver x (state_of begins choice w here)
-      finds_none =
-          let over = over_key w.flash_tree (origin_of w.seen) w.bound old.last before.listed old.phase f.finds.0 in
-          subst (λ z. IsOverIn x.Before (x.IsListed (begins w.flash_tree (origin_of w.seen)) (choice w.flash_tree) w.bound) (position_of old.phase z)) before.key_is over
-
-      stays_there : position_of phases.Done last ≡ position_of old.phase last
-      stays_there = by old.phase refl
-        where
-          by : (p : Phase) → old.phase ≡ p → After last ≡ position_of p last
-          by phases.Fresh is =
-              let over = subst (λ q. tree.IsOver (IsPath (model w.flash_tree) w) (position_of q old.last)) is f.finds.0 in
-              absurd (over [] (omega arith, tt) tt)
-          by phases.Going is = refl
-          by phases.Done is = refl
-          by phases.Broken is = absurd (f.works is)
+      finds_none = grind (arith, over_key)
 
       pub stays_so : state_of begins choice new.walk (position_of new.phase last) ≡ state_of begins choice w here
-      stays_so =
-          ap (λ p. state_of begins choice new.walk (position_of p last)) f.finds.3 ∙ ap (state_of begins choice new.walk) stays_there
-          ∙ same_state w new.walk f.finds.2 here f.failed
+      stays_so = grind arith
 
       pub sound_over : IsSound model begins choice key_of counted start chosen bound new last
-      sound_over = λ _. (
-        ours_there w new.walk f.finds.2 counted start chosen bound (f.sound f.works).0 f.limits,
-        record {
-          listed = subst (IsPath (model new.walk.flash_tree) new.walk) (sym f.finds.4)
-              (carried w new.walk f.finds.2 (λ b n c. tree.IsMember (model b).tree ((model b).root c) n old.last) before.listed);
-          key_is = same_key w new.walk f.finds.2 new.last ∙ ap (key_of w.flash_tree (origin_of w.seen)) f.finds.4 ∙ before.key_is;
-        },
-      )
+      sound_over = grind arith

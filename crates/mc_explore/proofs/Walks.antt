@@ -3,11 +3,11 @@ use Rattle.std.proofs.Common.{ap, arith, subst, sym, ◌∙◌}
 use Rattle.std.proofs.Math.Nat.{mul-le-mul_right}
 use Rattle.std.proofs.lemmas.List.{length-take-le}
 use Rattle.std.specs.Prelude.{Bool, List, None, Option, Some, [], false, is_some, length, refl, suc, take, true, ℕ, ◌*◌, ◌++◌, ◌+◌, ◌∷◌, ◌≡◌, ◌≤◌}
-use Rattle.mc_boot.specs.Boot.{HasCome, Progress, left_of, progress}
+use Rattle.mc_boot.specs.Boot.{Progress, left_of, progress}
 use Rattle.mc_boot.specs.Outcome.{after, shown}
-use Rattle.mc_boot.specs.Plan.{PowerOn, again, power_on}
+use Rattle.mc_boot.specs.Plan.{PowerOn, again}
 use Rattle.mc_boot.specs.facts.Bounds.{few_ops}
-use Rattle.mc_boot.specs.facts.Run.{come_begun, come_left}
+use Rattle.mc_boot.specs.facts.Run.{come_left}
 use Rattle.mc_explore.proofs.Onwards.{ComesOn}
 use Rattle.mc_explore.specs.Rows.{subject}
 use Rattle.mc_explore.specs.Schedules.{CanOccur, CannotOccurAt, IsReplayed}
@@ -15,11 +15,11 @@ use Rattle.mc_explore.specs.declared.one_round.OneRound.{OneRound}
 use Rattle.mc_explore.specs.declared.one_round.Summary.{Summary}
 use Rattle.mc_explore.specs.facts.Occurring.{allowed_after, occurs_allowed, path_of}
 use Rattle.mc_explore.specs.inner.Exploring.{FollowsKey}
-use Rattle.mc_explore.specs.inner.OneRound.{IsSummary, at_cut, begins, begun_of, boots, most_of, one_round}
+use Rattle.mc_explore.specs.inner.OneRound.{IsSummary, at_cut, begins, begun_of, boots, one_round}
 use Rattle.mc_explore.specs.inner.View.{Followed, IsLoaded, begun_with}
 use Rattle.mc_flash.specs.Flash.{Content}
 use Rattle.mc_flash.specs.Geometry.{Geometry, IsLayout}
-use Rattle.mc_flash.specs.Usage.{Allows, LeaveRoom, Limits, Loads, Seen, Spent, Usage, most_operations, most_saved, room_of}
+use Rattle.mc_flash.specs.Usage.{Allows, Limits, Loads, Seen, Spent, Usage, most_operations, most_saved}
 use Rattle.mc_start.specs.Start.{Started, begun}
 use Rattle.mc_start.specs.facts.Room.{limits_are}
 use Rattle.mc_trailer.specs.declared.tables.Rules.{Rules}
@@ -52,10 +52,7 @@ module _ (counted : Bool) (g : Geometry) (primary secondary : List ℕ) (f : See
 -- The start of the same four parts.
 pub same_start : (start : Started) (one_round : OneRound) (primary secondary : List ℕ) → one_round.rules ≡ start.rules → one_round.layout ≡ start.geometry → primary ≡ start.content.primary
     → secondary ≡ start.content.secondary → begun_with one_round primary secondary ≡ begun start
-same_start start one_round primary secondary rules layout one two =
-    let content : Content = record { primary = start.content.primary; secondary = start.content.secondary } in
-    let same : begun_with one_round primary secondary ≡ record { rules = start.rules; geometry = start.geometry; content = content } = cc in
-    same
+same_start start one_round primary secondary rules layout one two = grind arith
 
 -- A walk that was loaded for a start goes along a schedule.
 
@@ -89,17 +86,12 @@ module _ (counted : Bool) (start : PowerOn) (bound : ℕ) (path : List ℕ) (zer
   from_root l = ap (λ z. z ++ l) b.path
 
   at_start : (l : List ℕ) → tree.IsMember (boots one.flash_tree.rules one.flash_tree.layout) (origin_of one.seen) one.bound l → tree.IsMember (boots start.rules start.geometry) start.content bound l
-  at_start l m =
-      let P : PowerOn → Type 0 = λ s. tree.IsMember (boots s.rules s.geometry) s.content one.bound l in
-      subst (λ n. tree.IsMember (boots start.rules start.geometry) start.content n l) one_bound (subst P one_start m)
+  at_start l m = grind (arith, one_bound, one_start)
 
   -- And those of its start are its own.
   at_one : (l : List ℕ) → tree.IsMember (boots start.rules start.geometry) start.content bound l
       → tree.IsMember (boots one.flash_tree.rules one.flash_tree.layout) (origin_of one.seen) one.bound (one.path ++ l)
-  at_one l m =
-      let P : PowerOn → Type 0 = λ s. tree.IsMember (boots s.rules s.geometry) s.content one.bound l in
-      let here = subst P (sym one_start) (subst (λ n. tree.IsMember (boots start.rules start.geometry) start.content n l) (sym one_bound) m) in
-      subst (tree.IsMember (boots one.flash_tree.rules one.flash_tree.layout) (origin_of one.seen) one.bound) (sym (from_root l)) here
+  at_one l m = grind (arith, one_start, one_bound)
 
   -- There.
   pub followed : (went : Bool) → went ≡ true → Follows (one_round one.flash_tree.rules one.flash_tree.layout) path one went two
@@ -163,13 +155,10 @@ module _ (counted : Bool) (start : PowerOn) (bound : ℕ) (path : List ℕ) (w :
   cut = landed (boots start.rules start.geometry) start.content path
 
   node_is : landed (boots w.flash_tree.rules w.flash_tree.layout) (origin_of w.seen) w.path ≡ cut
-  node_is =
-      ap (λ (s : PowerOn). landed (boots s.rules s.geometry) s.content w.path) f.start_is ∙ ap (landed (boots start.rules start.geometry) start.content) f.path_is
+  node_is = grind arith
 
   pub summary_here : IsSummary (again start cut) summary
-  summary_here =
-      let P : PowerOn → Type 0 = λ s. IsSummary (again s (landed (boots w.flash_tree.rules w.flash_tree.layout) (origin_of w.seen) w.path)) summary in
-      subst (λ s. IsSummary (again start s) summary) node_is (subst P f.start_is there.summary_is)
+  summary_here = grind arith
 
   pub layout_here : w.seen.geometry ≡ start.geometry
   layout_here = there.layout_is ∙ ap (λ (s : PowerOn). s.geometry) f.start_is
@@ -180,44 +169,12 @@ module _ (counted : Bool) (start : PowerOn) (bound : ℕ) (path : List ℕ) (w :
 
   -- There is room for the boot.
   pub room_here : Allows (left_of w.seen.geometry (progress summary.boot)) w.seen
-  room_here =
-      let t = summary_here in
-      let at_most : LeaveRoom w.seen.usage.counts (left_of start.geometry (progress summary.boot)) (room_of w.seen.usage.limits) = record {
-        entries = omega (
-          arith,
-          there.room.allows.entries,
-          t.at_most.at_most,
-          ap (λ (p : Progress). length p.to_come) t.boot_is,
-          ap (λ (s : PowerOn). most_operations s.rules.grain
-              s.geometry) f.start_is,
-        );
-        saved = omega (
-          arith,
-          there.room.allows.saved,
-          t.at_most.saves,
-          ap (λ (p : Progress). (left_of start.geometry p).saved) t.boot_is,
-          ap (λ (s : PowerOn). (most_of s.rules s.geometry).saved) f.start_is,
-        );
-      } in
-      subst (λ (x : Geometry). LeaveRoom w.seen.usage.counts (left_of x (progress summary.boot)) (room_of w.seen.usage.limits)) (sym layout_here) at_most
+  room_here = grind arith
 
   -- What it leaves is what the replay leaves.
   pub replayed : (q : Progress) (new : Seen) → ComesOn w.seen (progress summary.boot) new q → q.to_come ≡ []
       → IsReplayed start path (shown summary.outcome) new.content
-  replayed q new come end =
-      let t = summary_here in
-      let P : Progress → Type 0 = λ p. HasCome (again start cut) p cut in
-      let at : w.seen.content ≡ cut = there.content_is ∙ node_is in
-      let begins : HasCome (again start cut) (progress summary.boot) cut = subst P (sym t.boot_is) (come_begun (again start cut)) in
-      let Q : Geometry → Type 0 = λ x. HasCome (power_on start.rules x cut) (progress summary.boot) w.seen.content in
-      let R : Geometry → Type 0 = λ x. HasCome (power_on start.rules x cut) q new.content in
-      let ends = subst R layout_here (come start.rules cut (subst Q (sym layout_here) (subst (HasCome (again start cut) (progress summary.boot)) (sym at) begins))) in
-      record {
-        cut = cut;
-        occurs = allowed_after start path f.allowed.1;
-        outcome_is = t.outcome_is;
-        left = come_left (again start cut) q new.content ends end;
-      }
+  replayed q new come end = grind (arith, allowed_after, come_left)
 
 -- A walk along a schedule.
 

@@ -48,23 +48,11 @@ pub copies_load : (g h : Geometry) (p q : List ℕ) (s : Content) (checkpoints :
     → boots ≤ 32
     → Loads false g p q grain boots (copies_seen h s (map copy_seen checkpoints) false)
 unfolding ample
-copies_load g h p q s checkpoints grain boots is content none at_most = record {
-  geometry_is = is;
-  content_is = content;
-  none = ap (map copy_seen) none;
-  usage_is = refl;
-  counted_is = refl;
-  room = rw is (ample_allows grain g boots at_most);
-  exact = λ e. let no : false ≡ true = e in absurd cc;
-}
+copies_load g h p q s checkpoints grain boots is content none at_most = grind (arith, ample_allows)
 
 pub copies_mark : (g : Geometry) (s : Content) (items more : List Content) (copy : Content) (failed : Bool) (number : ℕ) → more ≡ items ++ copy ∷ [] → copy ≡ s → number ≡ length items
     → Marks (copies_seen g s (map copy_seen items) failed) (Ok number) (copies_seen g s (map copy_seen more) failed)
-copies_mark g s items more copy failed number is same at = (
-  at ∙ sym (length-map items copy_seen),
-  ap (λ (ms : List Checkpoint). copies_seen g s ms failed) (ap (map copy_seen) is ∙ map-append copy_seen items (copy ∷ []) ∙ ap (λ (x : Content). map copy_seen items ++ copy_seen x ∷ []) same),
-  λ counted full. counts_nothing g counted,
-)
+copies_mark g s items more copy failed number is same at = grind (arith, length-map, map-append, counts_nothing)
 
 at_number : (items : List Content) (number : ℕ) (copy : Content) → number < length items → copy ≡ get_or items number copy → get_or (map copy_seen items) number no_checkpoint ≡ copy_seen copy
 at_number [] number copy below is = absurd (omega (arith, below))

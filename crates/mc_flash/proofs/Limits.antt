@@ -1,5 +1,5 @@
 -- Counts over whole numbers, and limits that are never met.
-use Rattle.std.proofs.Common.{arith, false, min, pos, sym, true, ℕ, ℤ, ◌*◌, ◌+◌, ◌-◌, ◌<◌, ◌∙◌, ◌≡◌, ◌≤◌}
+use Rattle.std.proofs.Common.{arith, false, min, pos, true, ℕ, ℤ, ◌*◌, ◌+◌, ◌-◌, ◌<◌, ◌≡◌, ◌≤◌}
 use Rattle.std.proofs.Math.Nat.{mul-le-mul_right}
 use Rattle.std.proofs.lemmas.Bool.Decides.{nat_tests}
 use Rattle.std.proofs.lemmas.Int.{clamps, ints}
@@ -23,8 +23,7 @@ not_zero n some = grind (arith, nat_tests)
 
 pub zero_or_positive : (t m p q n : ℕ) → n ≡ min (p - 1 - t) (min (q - t) m) → int_lt (count_beside t m p q) (pos 1) ≡ (n == 0)
 zero_or_positive t m p q zero e = below_one (count_beside t m p q) (omega (arith, ints, clamps))
-zero_or_positive t m p q (suc n) e =
-    not_below_one (count_beside t m p q) (suc n) (omega (arith, ints, clamps)) (omega arith) ∙ sym (not_zero (suc n) (omega arith))
+zero_or_positive t m p q (suc n) e = grind (arith, not_below_one, clamps, not_zero)
 
 -- Limits that no number of boots meets.
 

@@ -59,10 +59,7 @@ again s Secondary at new fits = ap (λ (l : List ℕ). with_bytes s Secondary l)
 
 pub erase_back : (s t : Content) (slot : Slot) (at len : ℕ) (new : List ℕ) → t ≡ with_bytes s slot (put (bytes_of s slot) at new) → length new ≡ len → at + len ≤ length (bytes_of s slot)
     → taken_back (record { slot = slot; at = at; old = between at (at + len) (bytes_of s slot) }) t ≡ s
-erase_back s t slot at len new is same fits =
-    ap (λ (x : Content). taken_back (record { slot = slot; at = at; old = between at (at + len) (bytes_of s slot) }) x) is
-    ∙ ap (λ (k : ℕ). taken_back (record { slot = slot; at = at; old = between at (at + k) (bytes_of s slot) }) (with_bytes s slot (put (bytes_of s slot) at new))) (sym same)
-    ∙ again s slot at new (omega (arith, fits, same))
+erase_back s t slot at len new is same fits = grind (arith, again)
 
 pub write_back : (s t : Content) (slot : Slot) (at len : ℕ) (new : List ℕ) → t ≡ with_bytes s slot (put (bytes_of s slot) at new) → length new ≡ len → at + len ≤ length (bytes_of s slot)
     → is_blank (between at (at + len) (bytes_of s slot)) ≡ true
@@ -208,9 +205,7 @@ fewer_saved (suc n) (e ∷ es) = omega (arith, fewer_saved n es)
 -- A sound journal stays sound.
 module _ (g : Geometry) (limits taken : Limits) (j : Journal) (checkpoints : List ℕ) (sound : IsSound g limits taken j checkpoints) where
   within : (taken' : Limits) → IsWithin taken taken' → IsWithin limits taken'
-  within taken' more =
-      let old = sound.room in
-      record { entries = omega (arith, old.entries, more.entries); saved = omega (arith, old.saved, more.saved); checkpoints = omega (arith, old.checkpoints, more.checkpoints) }
+  within taken' more = grind arith
 
   -- with one entry more
   pub sound_grown : (g' : Geometry) (taken' : Limits) (j' : Journal) (e : Entry) (c : Change) → Grown j j' e c → g' ≡ g → IsWithin taken taken' → length j.entries < limits.entries
@@ -267,10 +262,7 @@ copy_is : (g : Geometry) (s : Content) (from to : Slot) (at offset len : ℕ) �
     → apply g (ops.Copy from at to offset len) s ≡ in_slot s to (if is_blank (between offset (offset + len) (bytes_of s to)) then Some
     (put (bytes_of s to) offset (between at (at + len) (bytes_of s from))) else None)
 unfolding apply
-copy_is g s from to at offset len fits =
-    let new : List ℕ = between at (at + len) (bytes_of s from) in
-    let n : length new ≡ len = omega (arith, length-between (bytes_of s from) at (at + len) fits) in
-    ap (λ (k : ℕ). in_slot s to (if is_blank (between offset (offset + k) (bytes_of s to)) then Some (put (bytes_of s to) offset new) else None)) n
+copy_is g s from to at offset len fits = grind (arith, length-between)
 
 module _ (g : Geometry) (s t : Content) (from to : Slot) (at offset len : ℕ) (fits : at + len ≤ length (bytes_of s from)) where
   pub copy_done : is_blank (between offset (offset + len) (bytes_of s to)) ≡ true → t ≡ with_bytes s to (put (bytes_of s to) offset (between at (at + len) (bytes_of s from)))

@@ -1,6 +1,5 @@
 -- Numbers in bytes, and bytes taken piece by piece.
-use Rattle.std.proofs.Common.{List, [], ap, append_assoc, arith, drop, inl, inr, length, length-append, min, suc, sym, take, zero, ℕ, ◌++◌, ◌+◌, ◌-◌, ◌<◌, ◌^◌, ◌∙◌, ◌∷◌, ◌≡◌, ◌≤◌}
-use Rattle.std.proofs.lemmas.Bool.{cases_lt}
+use Rattle.std.proofs.Common.{List, [], ap, append_assoc, arith, drop, length, length-append, min, suc, take, zero, ℕ, ◌++◌, ◌+◌, ◌-◌, ◌<◌, ◌^◌, ◌∙◌, ◌∷◌, ◌≡◌, ◌≤◌}
 use Rattle.std.proofs.lemmas.List.{drop-drop, drop_at, get_or-drop, get_or-take, get_or_past, length-drop, length-take, take-append-drop, take_all, take_at, take_min}
 use Rattle.std.proofs.lemmas.Nat.{le_bytes_2, le_bytes_4}
 use Rattle.byteorder.specs.Endian.{little_bytes, little_number}
@@ -13,11 +12,7 @@ pub IsBytes-drop : (n : ℕ) (bytes : List ℕ) → IsBytes bytes → IsBytes (d
 IsBytes-drop n bytes h i = rw get_or-drop (h (n + i))
 
 pub IsBytes-take : (n : ℕ) (bytes : List ℕ) → IsBytes bytes → IsBytes (take n bytes)
-IsBytes-take n bytes h i =
-    elim (cases_lt i n) [
-      | inl lt ↦ rw (get_or-take n bytes i 0 lt) (h i)
-      | inr le ↦ rw (get_or_past (take n bytes) i 0 (omega (arith, length-take n bytes))) (omega arith)
-    ]
+IsBytes-take n bytes h i = grind (arith, get_or-take, get_or_past, length-take)
 
 pub u16_at-lt : (i : ℕ) (b : List ℕ) → IsBytes b → u16_at i b < 2 ^ 16
 unfolding u16_at
@@ -57,19 +52,6 @@ take_split zero xs ys = ap (λ (k : ℕ). take k ys) (let e : 0 ≡ 0 - length x
 take_split (suc n) [] ys = ap (λ (k : ℕ). take k ys) (let e : suc n ≡ suc n - 0 = omega arith in e)
 take_split (suc n) (x ∷ xs) ys = ap (λ (l : List ℕ). x ∷ l) (take_split n xs ys) ∙ ap (λ (k : ℕ). x ∷ (take n xs ++ take k ys)) (let e : n - length xs ≡ suc n - suc (length xs) = omega arith in e)
 
-pub drop_split : (n : ℕ) (xs ys : List ℕ) → drop n (xs ++ ys) ≡ drop n xs ++ drop (n - length xs) ys
-drop_split zero xs ys = ap (λ (k : ℕ). xs ++ drop k ys) (let e : 0 ≡ 0 - length xs = omega arith in e)
-drop_split (suc n) [] ys = ap (λ (k : ℕ). drop k ys) (let e : suc n ≡ suc n - 0 = omega arith in e)
-drop_split (suc n) (x ∷ xs) ys = drop_split n xs ys ∙ ap (λ (k : ℕ). drop n xs ++ drop k ys) (let e : n - length xs ≡ suc n - suc (length xs) = omega arith in e)
-
 -- what a room of n bytes holds once a piece was put after its first c
 pub gathered : (n c t : ℕ) (xs p r : List ℕ) → length xs ≡ n → c ≤ n → t ≡ min (n - c) (length p) → take (c + t) (take c xs ++ (take t p ++ r)) ≡ take n (take c xs ++ p)
-gathered n c t xs p r len le is =
-    let l : length (take c xs) ≡ c = omega (arith, length-take c xs) in
-    let m : length (take t p) ≡ t = omega (arith, length-take t p) in
-    let fits : length (take c xs ++ take t p) ≡ c + t = omega (arith, length-append (take c xs) (take t p)) in
-    let left : take (c + t) (take c xs ++ (take t p ++ r)) ≡ take c xs ++ take t p =
-    ap (take (c + t)) (sym (append_assoc (take c xs) (take t p) r)) ∙ take_at (take c xs ++ take t p) r (c + t) fits in
-    let all : take n (take c xs) ≡ take c xs = take_all n (take c xs) (omega arith) in
-    let room : take (n - length (take c xs)) p ≡ take t p = ap (λ (k : ℕ). take (n - k) p) l ∙ sym (take_min (n - c) p) ∙ ap (λ (k : ℕ). take k p) (sym is) in
-    left ∙ sym (take_split n (take c xs) p ∙ ap (λ (a : List ℕ). a ++ take (n - length (take c xs)) p) all ∙ ap (λ (a : List ℕ). take c xs ++ a) room)
+gathered n c t xs p r len le is = grind (arith, length-take, length-append, append_assoc, take_at, take_all, take_min, take_split)

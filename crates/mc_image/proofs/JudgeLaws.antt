@@ -1,6 +1,6 @@
 -- What the first bytes of an image say stays said; a judge's answers and steps.
-use Rattle.std.proofs.Common.{Bool, Err, List, None, Ok, Some, [], ap, append_assoc, arith, drop, false, get_or, inl, inr, is_some, length, length-append, min, refl, subst, sym, take, true, ℕ, ◌++◌, ◌+◌, ◌-◌, ◌<◌, ◌∙◌, ◌∷◌, ◌≡◌, ◌≢◌, ◌≤◌}
-use Rattle.std.proofs.lemmas.Bool.{cases_lt, le-ltb, lt-ltb, ne_eqb}
+use Rattle.std.proofs.Common.{Bool, Err, List, None, Ok, Some, [], ap, append_assoc, arith, drop, false, inl, inr, is_some, length, length-append, min, refl, subst, sym, take, true, ℕ, ◌++◌, ◌+◌, ◌-◌, ◌<◌, ◌∙◌, ◌∷◌, ◌≡◌, ◌≢◌, ◌≤◌}
+use Rattle.std.proofs.lemmas.Bool.{cases_lt, le-ltb, lt-ltb}
 use Rattle.std.proofs.lemmas.List.{append-nil, append_cancel_right, drop-append-le, drop_at, get_or-append_right, get_or_append_left, length-drop, length-take, take-append-drop, take-append-le, take_all, take_at, take_min}
 use Rattle.std.specs.Prelude.{Result, is_none, nat_lt, not, ◌&&◌, ◌==◌}
 use Rattle.mc_image.proofs.ByteNumbers.{IsBytes-take, take_split}
@@ -8,7 +8,7 @@ use Rattle.mc_image.proofs.ImageLaws.{cut_is, not_some, reading, size_is}
 use Rattle.mc_image.proofs.Views.{fault_read, from_parts}
 use Rattle.mc_image.proofs.Scans.{beyond_error, digest_good, late_fault, plain_entries, plain_short, u16_more, u32_more}
 use Rattle.mc_image.proofs.Written.{appended}
-use Rattle.mc_image.specs.Image.{Image, IsBytes, IsGood, after_body, area_in, covered_text, digest_of, digests, entries_in, entries_of, header_end, header_in, header_text, image_in, image_text, payload_end, payload_in, protected_end, protected_in, protected_text, u16_at, version_in}
+use Rattle.mc_image.specs.Image.{IsBytes, after_body, area_in, covered_text, digest_of, digests, entries_in, entries_of, header_end, header_in, image_in, image_text, payload_end, payload_in, protected_end, protected_in, protected_text, u16_at, version_in}
 use Rattle.mc_image.specs.Valid.{body_fault, digest_fault, fault_if, first_fault, header_fault, is_bad_area, plain_fault, protected_fault, ◌<+>◌}
 use Rattle.mc_image.specs.declared.areas.ProtectedArea.{ProtectedArea}
 use Rattle.mc_image.specs.declared.areas.EntryScan.{EntryScan}
@@ -24,7 +24,6 @@ use Rattle.mc_image.specs.facts.Valid.{good_false, good_true}
 use Rattle.mc_image.specs.inner.Judging.{HasHeader, IsBeyond, IsInStage, IsPlain, IsProtected, IsSealed, Judges, judged_or_fault, verdict}
 use Rattle.mc_image.specs.inner.Reading.{Follows, Goes, IsHeader, Scans, entries_fault, head_fault, held}
 use Rattle.sha2.specs.Hashers.{Holds256}
-use Rattle.sha2.specs.Sha256.{sha256}
 use Rattle.sha2.specs.declared.Sha256.{Sha256}
 use Rattle.mc_image.specs.declared.judge.Stage.TheVariants as stages
 
@@ -43,13 +42,7 @@ module _ (b c : List ℕ) (long : 32 ≤ length b) where
 
   pub header_fault_more : header_fault (b ++ c) ≡ header_fault b
   unfolding header_fault
-  header_fault_more =
-      let p : nat_lt (length (b ++ c)) 32 ≡ false = le-ltb _ _ longer in
-      let q : nat_lt (length b) 32 ≡ false = le-ltb _ _ long in
-      let m = u32_more 0 b c (omega (arith, long)) in
-      let s = u16_more 8 b c (omega (arith, long)) in
-      let f = u32_more 16 b c (omega (arith, long)) in
-      rw (p, q, m, s, f) refl
+  header_fault_more = grind (arith, longer, long, u32_more, u16_more)
 
   pub payload_end_more : payload_end (b ++ c) ≡ payload_end b
   unfolding payload_end header_end
@@ -61,12 +54,7 @@ module _ (b c : List ℕ) (long : 32 ≤ length b) where
 
   pub version_more : version_in (b ++ c) ≡ version_in b
   unfolding version_in
-  version_more =
-      let e20 = get_or_append_left b c 0 20 (omega (arith, long)) in
-      let e21 = get_or_append_left b c 0 21 (omega (arith, long)) in
-      let e22 = u16_more 22 b c (omega (arith, long)) in
-      let e24 = u32_more 24 b c (omega (arith, long)) in
-      cc
+  version_more = grind (arith, get_or_append_left, long, u16_more, u32_more)
 
 pub has_header_more : (h : Header) (b c : List ℕ) → HasHeader h b → HasHeader h (b ++ c)
 has_header_more h b c has =
@@ -119,12 +107,7 @@ third_fault b e h1 h2 h3 = rw (h1, h2, h3) refl
 -- the protected area of a body that ends with it
 pub protected_is : (prefix rest : List ℕ) → 32 ≤ length prefix → length prefix ≡ payload_end prefix → length rest ≡ u16_at 10 prefix → (more : List ℕ) → protected_in (prefix ++ (rest ++ more)) ≡ rest
 unfolding protected_in
-protected_is prefix rest long len size more =
-    let p = payload_end_more prefix (rest ++ more) long in
-    let q = u16_more 10 prefix (rest ++ more) (omega (arith, long)) in
-    ap (λ (n : ℕ). take n (drop (payload_end (prefix ++ (rest ++ more))) (prefix ++ (rest ++ more)))) q
-    ∙ ap (take (u16_at 10 prefix)) (drop_at prefix (rest ++ more) (payload_end (prefix ++ (rest ++ more))) (len ∙ sym p))
-    ∙ take_at rest more (u16_at 10 prefix) size
+protected_is prefix rest long len size more = grind (arith, payload_end_more, u16_more, drop_at, take_at)
 
 pub protected_none : (b : List ℕ) → u16_at 10 b ≡ 0 → protected_fault b ≡ None
 unfolding protected_fault
@@ -132,9 +115,7 @@ protected_none b e = rw e refl
 
 by_area : (b : List ℕ) (t : Bool) → u16_at 10 b ≢ 0 → is_bad_area 0x6908 (protected_in b) ≡ t → protected_fault b ≡ fault_if t BadProtected
 unfolding protected_fault
-by_area b t ne is =
-    let z : (u16_at 10 b == 0) ≡ false = ne_eqb _ _ ne in
-    rw (z, is) refl
+by_area b t ne is = grind arith
 
 -- by the test of the area
 module _ (h : Header) (prefix rest : List ℕ) (has : HasHeader h prefix) (len : length prefix ≡ payload_end prefix) (size : length rest ≡ h.protected) (ne : h.protected ≢ 0) where
@@ -189,9 +170,7 @@ module _ (s : Sealed) (body : List ℕ) (is : IsSealed s body) (rest : List ℕ)
 
   -- the first fault is that of what follows
   pub fault_beyond : first_fault (body ++ rest) ≡ (plain_fault rest <+> digest_fault (digests (entries_in (drop 4 (area_in rest)))))
-  fault_beyond =
-      late_fault (body ++ rest) (header_fault_more body rest long ∙ is.header.none) (body_whole (body ++ rest) (omega (arith, ends, length-append body rest))) (same_fault ∙ is.protected)
-      ∙ ap (λ (x : List ℕ). plain_fault x <+> digest_fault (digests (entries_in (drop 4 (area_in x))))) after_is
+  fault_beyond = grind (arith, late_fault, header_fault_more, long, body_whole, ends, length-append, same_fault, after_is)
 
   pub plain_error : (e : ImageError) → plain_fault rest ≡ Some e → verdict (body ++ rest) ≡ Err e
   plain_error e h = fault_verdict (body ++ rest) e (fault_beyond ∙ beyond_error (plain_fault rest) _ e h)
@@ -201,12 +180,7 @@ module _ (s : Sealed) (body : List ℕ) (is : IsSealed s body) (rest : List ℕ)
 -- a head stays without a fault, whatever follows
 pub head_fault_more : (a more : List ℕ) → 4 ≤ length a → head_fault (a ++ more) ≡ head_fault a
 unfolding head_fault
-head_fault_more a more four =
-    let p : nat_lt (length (a ++ more)) 4 ≡ false = le-ltb _ _ (omega (arith, length-append a more, four)) in
-    let q : nat_lt (length a) 4 ≡ false = le-ltb _ _ four in
-    let m = u16_more 0 a more (omega (arith, four)) in
-    let n = u16_more 2 a more (omega (arith, four)) in
-    rw (p, q, m, n) refl
+head_fault_more a more four = grind (arith, length-append, u16_more)
 
 module _ (s : Sealed) (body : List ℕ) (is : IsSealed s body) (t : ℕ) (scan : EntryScan) (area : List ℕ) (plain : IsPlain t 0 scan area) (more : List ℕ) where
   total : u16_at 2 (area ++ more) ≡ length area
@@ -234,10 +208,7 @@ module _ (s : Sealed) (body : List ℕ) (is : IsSealed s body) (t : ℕ) (scan :
 
   digest_is : (d : List ℕ) → digests (entries_in (drop 4 area)) ≡ d ∷ [] → digest_of (image_in (body ++ (area ++ more))) ≡ d
   unfolding digest_of image_in
-  digest_is d one =
-      ap (λ (x : List ℕ). get_or (digests (entries_in (drop 4 (area_in x)))) 0 []) after
-      ∙ ap (λ (x : List ℕ). get_or (digests (entries_in (drop 4 x))) 0 []) area_is
-      ∙ ap (λ (ds : List (List ℕ)). get_or ds 0 []) one
+  digest_is d one = grind (arith, after, area_is)
 
   version_is : (image_in (body ++ (area ++ more))).version ≡ s.header.version
   unfolding image_in
@@ -264,27 +235,16 @@ module _ (s : Sealed) (body : List ℕ) (is : IsSealed s body) (t : ℕ) (scan :
 
     size : length (image_text (image_in (body ++ (area ++ more)))) ≡ length body + length area
     unfolding covered_text
-    size =
-        let v : Image = image_in (body ++ (area ++ more)) in
-        let r = reading (body ++ (area ++ more)) h (none_is d filled one len) in
-        let p = ap length (r.plain ∙ ap area_in after ∙ area_is) in
-        omega (arith, size_is v, ap length covered, length-append (header_text v) (v.payload ++ protected_text v), length-append v.payload (protected_text v), p)
+    size = grind (arith, reading, none_is, after, area_is, size_is, covered, length-append)
 
     -- another digest
     pub digest_wrong : (s.digest ≡ d → ⊥) → verdict (body ++ (area ++ more)) ≡ Err WrongDigest
     unfolding verdict
-    digest_wrong ne =
-        let b : List ℕ = body ++ (area ++ more) in
-        ap (judged_or_fault (image_in b)) (from_parts b false (none_is d filled one len)
-        (good_false (image_in b) (λ (g : IsGood (image_in b)). ne (is.digest ∙ sym (ap sha256 covered) ∙ sym g ∙ digest_is d one))))
+    digest_wrong ne = grind (arith, from_parts, none_is, good_false, covered, digest_is)
 
     pub digest_right : (n : ℕ) → s.digest ≡ d → n ≡ length body + length area → verdict (body ++ (area ++ more)) ≡ Ok (record { version = s.header.version; size = n; digest = d })
     unfolding verdict
-    digest_right n same is_size =
-        let b : List ℕ = body ++ (area ++ more) in
-        let good : IsGood (image_in b) = digest_is d one ∙ sym same ∙ is.digest ∙ sym (ap sha256 covered) in
-        ap (judged_or_fault (image_in b)) (from_parts b true (none_is d filled one len) (good_true (image_in b) good))
-        ∙ (λ i. Ok (record { version = version_is i; size = (size ∙ sym is_size) i; digest = digest_is d one i }))
+    digest_right n same is_size = grind (arith, digest_is, covered, from_parts, none_is, good_true, version_is, size)
 
 -- the length of a body
 pub sealed_len : (s : Sealed) (body : List ℕ) → IsSealed s body → length body ≡ s.header.size + s.header.payload + s.header.protected
@@ -330,9 +290,7 @@ over_goes j piece answer e lt are = takes_bytes j j piece piece [] (sym (append-
 -- what stands after a body grows
 beyond_more : {k : Judge} {P : List ℕ → Type 0} (s : Sealed) (bytes more : List ℕ) → IsBeyond s bytes P → IsBytes (bytes ++ more)
     → ((body rest : List ℕ) → IsBytes (body ++ (rest ++ more)) → IsSealed s body → P rest → Judges k (body ++ (rest ++ more))) → Judges k (bytes ++ more)
-beyond_more {k} s bytes more b all goes =
-    let same = ap (λ (x : List ℕ). x ++ more) b.split ∙ append_assoc b.body b.rest more in
-    subst (λ (x : List ℕ). Judges k x) (sym same) (goes b.body b.rest (subst (λ (x : List ℕ). IsBytes x) same all) b.sealed b.stands)
+beyond_more {k} s bytes more b all goes = grind (arith, append_assoc)
 
 module _ (j k : Judge) (piece rest : List ℕ) (fed : (bytes : List ℕ) × Judges j bytes) (some : 0 < length piece) (are : IsBytes piece) where
   -- a room of n bytes takes what it can

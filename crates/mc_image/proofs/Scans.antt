@@ -1,13 +1,13 @@
 -- A walk along entries that are cut anywhere finds what is in them.
-use Rattle.std.proofs.Common.{Bool, List, None, Option, Some, [], ap, append_assoc, arith, cond, drop, eq-eqb, false, inl, inr, is_some, length, min, refl, subst, suc, sym, take, true, zero, ℕ, ◌++◌, ◌+◌, ◌-◌, ◌<◌, ◌∙◌, ◌∷◌, ◌≡◌, ◌≢◌, ◌≤◌}
-use Rattle.std.proofs.lemmas.Bool.{cases_lt, eqb-true, le-ltb, lt-ltb, ltb-false, ne_eqb}
+use Rattle.std.proofs.Common.{Bool, List, None, Option, Some, [], ap, append_assoc, arith, cond, drop, eq-eqb, false, is_some, length, min, refl, subst, suc, sym, take, true, zero, ℕ, ◌++◌, ◌+◌, ◌-◌, ◌<◌, ◌∙◌, ◌∷◌, ◌≡◌, ◌≢◌, ◌≤◌}
+use Rattle.std.proofs.lemmas.Bool.{eqb-true, le-ltb, lt-ltb, ltb-false, ne_eqb}
 use Rattle.std.proofs.lemmas.List.{append-nil, drop-append-le, drop_all, drop_at, length-append, length-drop, length-take, nil_from_length, take-append-drop, take-append-le, take-take, take_all, take_at, take_rest}
 use Rattle.std.specs.Option.{option_map}
 use Rattle.std.specs.Prelude.{is_none, nat_lt, not, unwrap_or, ◌==◌, ◌||◌}
 use Rattle.byteorder.specs.Endian.{little_number}
 use Rattle.byteorder.specs.Numbers.{little_from-append}
-use Rattle.mc_image.proofs.ByteNumbers.{drop_split, take_split}
-use Rattle.mc_image.proofs.EntryLaws.{chosen_some, entries-first, entries-nil, entries-stuck, first-shorter, is_some-map, map_some}
+use Rattle.mc_image.proofs.ByteNumbers.{take_split}
+use Rattle.mc_image.proofs.EntryLaws.{entries-first, entries-nil, entries-stuck, first-shorter, is_some-map, map_some}
 use Rattle.mc_image.proofs.ImageLaws.{in_is, not_some, u16_at-take}
 use Rattle.mc_image.proofs.Written.{appended}
 use Rattle.mc_image.specs.Image.{Entry, after_body, area_in, digests, entries_in, entries_of, entries_within, first_entry, u16_at, u32_at}
@@ -41,36 +41,15 @@ u32_more i b c le = ap (little_number 4) (drop-append-le i b c (omega arith)) �
 -- the first entry stays the first, whatever follows
 first_more : (a b : List ℕ) (x : Entry × List ℕ) → first_entry a ≡ Some x → first_entry (a ++ b) ≡ Some (x.0, x.1 ++ b)
 unfolding first_entry
-first_more a b x e =
-    let s = chosen_some (nat_lt (length a) 4) _ x e in
-    let t = chosen_some (nat_lt (length a) (4 + u16_at 2 a)) _ x s.1 in
-    let four : 4 ≤ length a = ltb-false _ _ s.0 in
-    let all : 4 + u16_at 2 a ≤ length a = ltb-false _ _ t.0 in
-    let len = length-append a b in
-    let n : u16_at 2 (a ++ b) ≡ u16_at 2 a = u16_more 2 a b (omega arith) in
-    let k : u16_at 0 (a ++ b) ≡ u16_at 0 a = u16_more 0 a b (omega arith) in
-    let p : nat_lt (length (a ++ b)) 4 ≡ false = le-ltb _ _ (omega arith) in
-    let q : nat_lt (length (a ++ b)) (4 + u16_at 2 a) ≡ false = le-ltb _ _ (omega arith) in
-    let v : take (u16_at 2 a) (drop 4 (a ++ b)) ≡ take (u16_at 2 a) (drop 4 a) =
-    ap (take (u16_at 2 a)) (drop-append-le 4 a b four) ∙ take-append-le (u16_at 2 a) (drop 4 a) b (omega (arith, length-drop 4 a)) in
-    let r : drop (4 + u16_at 2 a) (a ++ b) ≡ drop (4 + u16_at 2 a) a ++ b = drop-append-le (4 + u16_at 2 a) a b all in
-    let made : Entry × List ℕ = (record { kind = u16_at 0 a; value = take (u16_at 2 a) (drop 4 a) }, drop (4 + u16_at 2 a) a) in
-    let is : made ≡ x = cc in
-    rw (p, n, q, k, v, r) (ap (λ (y : Entry × List ℕ). Some (y.0, y.1 ++ b)) is)
-
-map_nil : (o : Option (List Entry)) → o ≡ option_map (λ fs. [] ++ fs) o
-map_nil None = refl
-map_nil (Some fs) = refl
+first_more a b x e = grind (arith, ltb-false, length-append, u16_more, le-ltb, drop-append-le, take-append-le, length-drop)
 
 map_cons : (x : Entry) (ys : List Entry) (o : Option (List Entry)) → option_map (λ es. x ∷ es) (option_map (λ fs. ys ++ fs) o) ≡ option_map (λ fs. (x ∷ ys) ++ fs) o
-map_cons x ys None = refl
-map_cons x ys (Some fs) = refl
+map_cons x ys it = grind arith
 
 joined_within : (n : ℕ) (a b : List ℕ) (es : List Entry) → length a ≤ n → entries_of a ≡ Some es → entries_of (a ++ b) ≡ option_map (λ fs. es ++ fs) (entries_of b)
 joined_within n [] b es le e =
     let is : [] ≡ es = let f = entries-nil in cc in
-    let P : List Entry → Type 0 = λ ys. entries_of b ≡ option_map (λ fs. ys ++ fs) (entries_of b) in
-    subst P is (map_nil (entries_of b))
+    grind arith
 joined_within zero (c ∷ cs) b es le e = absurd (omega arith)
 joined_within (suc n) (c ∷ cs) b es le e =
     elim (first_entry (c ∷ cs)) as (λ o. first_entry (c ∷ cs) ≡ o → entries_of ((c ∷ cs) ++ b) ≡ option_map (λ fs. es ++ fs) (entries_of b)) [
@@ -90,12 +69,7 @@ joined a b h = joined_within (length a) a b (entries_in a) (omega arith) (in_is 
 -- an entry that is complete
 pub first_whole : (begun : List ℕ) → 4 ≤ length begun → length begun ≡ 4 + u16_at 2 begun → first_entry begun ≡ Some (record { kind = u16_at 0 begun; value = drop 4 begun }, [])
 unfolding first_entry
-first_whole begun four all =
-    let p : nat_lt (length begun) 4 ≡ false = le-ltb _ _ four in
-    let q : nat_lt (length begun) (4 + u16_at 2 begun) ≡ false = le-ltb _ _ (omega arith) in
-    let v : take (u16_at 2 begun) (drop 4 begun) ≡ drop 4 begun = take_all (u16_at 2 begun) (drop 4 begun) (omega (arith, length-drop 4 begun)) in
-    let r : drop (4 + u16_at 2 begun) begun ≡ [] = drop_all (4 + u16_at 2 begun) begun (omega arith) in
-    rw (p, q, v, r) refl
+first_whole begun four all = grind (arith, take_all, length-drop, drop_all)
 
 one_whole : (begun : List ℕ) → 4 ≤ length begun → length begun ≡ 4 + u16_at 2 begun → entries_of begun ≡ Some (record { kind = u16_at 0 begun; value = drop 4 begun } ∷ [])
 one_whole begun four all = entries-first begun _ (first_whole begun four all) ∙ ap (λ o. option_map (λ (es : List Entry). record { kind = u16_at 0 begun; value = drop 4 begun } ∷ es) o) entries-nil
@@ -107,10 +81,7 @@ stuck_short begun lt = let p : nat_lt (length begun) 4 ≡ true = lt-ltb _ _ lt 
 
 pub stuck_value : (begun : List ℕ) → 4 ≤ length begun → length begun < 4 + u16_at 2 begun → first_entry begun ≡ None
 unfolding first_entry
-stuck_value begun four lt =
-    let p : nat_lt (length begun) 4 ≡ false = le-ltb _ _ four in
-    let q : nat_lt (length begun) (4 + u16_at 2 begun) ≡ true = lt-ltb _ _ lt in
-    rw (p, q) refl
+stuck_value begun four lt = grind arith
 
 module _ (whole : List ℕ) (begun : List ℕ) (filled : is_some (entries_of whole) ≡ true) where
   -- whole entries and one that is begun are not filled
@@ -135,20 +106,14 @@ digests_beyond (x ∷ es) e =
 module _ (whole : List ℕ) (begun : List ℕ) (filled : is_some (entries_of whole) ≡ true) (four : 4 ≤ length begun) (all : length begun ≡ 4 + u16_at 2 begun) where
   -- an entry of another type is no digest
   pub passed_other : u16_at 0 begun ≢ 0x10 → digests (entries_in (whole ++ begun)) ≡ digests (entries_in whole)
-  passed_other ne =
-      ap digests (passed_in whole begun filled four all) ∙ digests_beyond (entries_in whole) (record { kind = u16_at 0 begun; value = drop 4 begun })
-      ∙ ap (λ (t : Bool). digests (entries_in whole) ++ cond t (drop 4 begun ∷ []) []) (ne_eqb _ _ ne) ∙ append-nil (digests (entries_in whole))
+  passed_other ne = grind (arith, passed_in, whole, digests_beyond, ne_eqb, append-nil)
 
   pub passed_digest : u16_at 0 begun ≡ 0x10 → digests (entries_in (whole ++ begun)) ≡ digests (entries_in whole) ++ (drop 4 begun ∷ [])
-  passed_digest is =
-      ap digests (passed_in whole begun filled four all) ∙ digests_beyond (entries_in whole) (record { kind = u16_at 0 begun; value = drop 4 begun })
-      ∙ ap (λ (t : Bool). digests (entries_in whole) ++ cond t (drop 4 begun ∷ []) []) (eq-eqb _ _ is)
+  passed_digest is = grind (arith, passed_in, whole, digests_beyond, eq-eqb)
 
 -- what is said of more than one digest
 pub many_fault : (ds : List (List ℕ)) → 2 ≤ length ds → digest_fault ds ≡ Some ManyDigests
-many_fault [] le = absurd (omega arith)
-many_fault (d ∷ []) le = absurd (omega arith)
-many_fault (d ∷ c ∷ ds) le = refl
+many_fault it le = grind arith
 
 -- The steps of a walk along entries.
 
@@ -199,9 +164,7 @@ head_goes w head more part scanned piece rest some e lt known is_more is_rest is
 
 -- in a value
 in_value_more : (begun taken : List ℕ) (left t : ℕ) → IsInValue begun left → length taken ≡ t → t ≤ left → IsInValue (begun ++ taken) (left - t)
-in_value_more begun taken left t at len le =
-    let l = length-append begun taken in
-    record { head = omega (arith, l, at.head); rest = omega (arith, l, len, at.rest, u16_more 2 begun taken (omega (arith, at.head)), le) }
+in_value_more begun taken left t at len le = grind (arith, length-append, u16_more)
 
 kind_more : (begun taken : List ℕ) (left : ℕ) → IsInValue begun left → u16_at 0 (begun ++ taken) ≡ u16_at 0 begun
 kind_more begun taken left at = u16_more 0 begun taken (omega (arith, at.head))
@@ -218,9 +181,7 @@ value_goes w left t piece some e lt known is =
     (λ before begun _ at. (in_value_more begun (take t piece) left t at.0 l (omega (arith, is)), λ k. at.1 (sym (kind_more begun (take t piece) left at.0) ∙ k)))
 
 pub take_again : (n : ℕ) (xs ys : List ℕ) → take n (take n xs ++ ys) ≡ take n (xs ++ ys)
-take_again n xs ys =
-    take_split n (take n xs) ys ∙ ap (λ (x : List ℕ). x ++ take (n - length (take n xs)) ys) (take-take n n xs (omega arith))
-    ∙ ap (λ (k : ℕ). take n xs ++ take k ys) (let q : n - length (take n xs) ≡ n - length xs = omega (arith, length-take n xs) in q) ∙ sym (take_split n xs ys)
+take_again n xs ys = grind (arith, take_split, take-take, length-take)
 
 kept_more : (v : DigestValue) (bytes : Gather 33) (before : ℕ) (begun taken : List ℕ) → IsKept v before begun → 4 ≤ length begun → held bytes ≡ take 33 (held v.bytes ++ taken)
     → IsKept (record { start = v.start; bytes = bytes }) before (begun ++ taken)
@@ -247,21 +208,10 @@ complete : (begun : List ℕ) → IsInValue begun 0 → length begun ≡ 4 + u16
 complete begun at = let r = at.rest in omega (arith, r)
 
 one_more : (v : DigestValue) (whole begun : List ℕ) → IsOne v whole → digests (entries_in (whole ++ begun)) ≡ digests (entries_in whole) → IsOne v (whole ++ begun)
-one_more v whole begun one same =
-    record {
-      value = one.value;
-      one = same ∙ one.one;
-      bytes = one.bytes;
-      prefix = one.prefix;
-      back = one.back ++ begun;
-      stands = ap (λ (x : List ℕ). x ++ begun) one.stands ∙ append_assoc one.prefix (one.value ++ one.back) begun ∙ ap (λ (x : List ℕ). one.prefix ++ x) (append_assoc one.value one.back begun);
-      start = one.start;
-    }
+one_more v whole begun one same = grind (arith, append_assoc)
 
 finds_more : (f : Found) (whole begun : List ℕ) → Finds f whole → digests (entries_in (whole ++ begun)) ≡ digests (entries_in whole) → Finds f (whole ++ begun)
-finds_more found.Nothing whole begun h same = same ∙ h
-finds_more (found.One v) whole begun h same = one_more v whole begun h same
-finds_more found.Many whole begun h same = let l = ap length same in omega (arith, l, h)
+finds_more it whole begun h same = grind (arith, whole, one_more)
 
 -- the first digest
 pub found_first : (v : DigestValue) (whole begun : List ℕ) → digests (entries_in whole) ≡ [] → is_some (entries_of whole) ≡ true → IsEntered v (length whole) begun → IsOne v (whole ++ begun)
@@ -281,8 +231,7 @@ found_first v whole begun none filled is =
 -- a further one
 pub found_further : (v : DigestValue) (whole begun : List ℕ) → 0 < length (digests (entries_in whole)) → is_some (entries_of whole)
     ≡ true → IsEntered v (length whole) begun → 2 ≤ length (digests (entries_in (whole ++ begun)))
-found_further v whole begun lt filled is =
-    omega (arith, ap length (passed_digest whole begun filled is.value.head (complete begun is.value) is.kind) ∙ length-append (digests (entries_in whole)) (drop 4 begun ∷ []), lt)
+found_further v whole begun lt filled is = grind (arith, passed_digest, complete, length-append)
 
 filled_is : (bytes whole begun : List ℕ) → bytes ≡ whole ++ begun → is_some (entries_of whole) ≡ true → IsInValue begun 0 → is_some (entries_of bytes) ≡ true
 filled_is bytes whole begun split filled at = ap (λ (x : List ℕ). is_some (entries_of x)) split ∙ passed_filled whole begun filled at.head (complete begun at)
@@ -309,10 +258,7 @@ finished_digest w left v f bytes e le r with_it =
 -- ---- at the end
 
 between_cases : (n : ℕ) (whole begun : List ℕ) → length begun ≡ n → n < 4 → is_some (entries_of whole) ≡ true → (n == 0) ≡ is_some (entries_of (whole ++ begun))
-between_cases zero whole begun e lt filled = sym (ap (λ (x : List ℕ). is_some (entries_of x)) (ap (λ (x : List ℕ). whole ++ x) (nil_from_length begun e) ∙ append-nil whole) ∙ filled)
-between_cases (suc n) whole begun e lt filled =
-    let f : (suc n == 0) ≡ false = ne_eqb _ _ (omega arith) in
-    f ∙ sym (not_filled whole begun filled (omega (arith, e)) (stuck_short begun (omega (arith, e, lt))))
+between_cases it whole begun e lt filled = grind (arith, whole, nil_from_length, append-nil, ne_eqb, not_filled, stuck_short)
 
 pub between_head : (w : EntryScan) (head : Gather 4) (bytes : List ℕ) → w.part ≡ parts_of.Head head → Scans w bytes → (length (held head) == 0) ≡ is_some (entries_of bytes)
 between_head w head bytes e h =
@@ -374,10 +320,7 @@ module _ (w : EntryScan) (bytes : List ℕ) (h : Scans w bytes) (filled : is_som
 -- before the first byte
 pub scan_new : (head : Gather 4) → held head ≡ [] → Scans (record { scanned = 0; part = parts_of.Head head; found = found.Nothing }) []
 unfolding entries_in entries_of entries_within
-scan_new head none = record {
-  reaches = record { whole = []; begun = []; split = refl; filled = refl; scanned = refl; at = (omega arith, none); found = refl };
-  more = tt;
-}
+scan_new head none = grind arith
 
 -- a step, and what it settles
 pub stepped : {w mid new : EntryScan} {piece rest : List ℕ} → Goes (Scans w) (Reaches mid) piece rest → ((bytes : List ℕ) → Reaches mid bytes → Scans new bytes) → Goes (Scans w) (Scans new) piece rest
@@ -392,14 +335,10 @@ gone_all p all rest seen none e h = subst p (sym (append-nil seen) ∙ ap (λ (x
 
 -- something was found before
 pub some_one : (f : Found) (v : DigestValue) (whole : List ℕ) → f ≡ found.One v → Finds f whole → 0 < length (digests (entries_in whole))
-some_one f v whole e h =
-    let one : IsOne v whole = subst (λ (x : Found). Finds x whole) e h in
-    omega (arith, ap length one.one)
+some_one f v whole e h = grind arith
 
 pub some_many : (f : Found) (whole : List ℕ) → f ≡ found.Many → Finds f whole → 0 < length (digests (entries_in whole))
-some_many f whole e h =
-    let two : 2 ≤ length (digests (entries_in whole)) = subst (λ (x : Found). Finds x whole) e h in
-    omega (arith, two)
+some_many f whole e h = grind arith
 
 -- Areas that come in pieces.
 
@@ -407,28 +346,14 @@ some_many f whole e h =
 module _ (a : ProtectedArea) (head : Gather 4) (scan : EntryScan) (piece entries : List ℕ) (is_head : held head ≡ take 4 (held a.head ++ piece))
     (is_entries : entries ≡ drop (4 - length (held a.head)) piece) where
   pub follows_more : ((bytes : List ℕ) → Scans a.scan bytes → Scans scan (bytes ++ entries)) → (bytes : List ℕ) → Follows a bytes → Follows (record { head = head; scan = scan }) (bytes ++ piece)
-  follows_more goes bytes f =
-      let same : drop 4 bytes ++ entries ≡ drop 4 (bytes ++ piece) =
-      ap (λ (x : List ℕ). drop 4 bytes ++ x) is_entries ∙ ap (λ (k : ℕ). drop 4 bytes ++ drop k piece)
-      (let q : 4 - length (held a.head) ≡ 4 - length bytes = omega (arith, ap length f.head ∙ length-take 4 bytes) in q) ∙ sym (drop_split 4 bytes piece) in
-      record {
-        head = is_head ∙ ap (λ (x : List ℕ). take 4 (x ++ piece)) f.head ∙ take_again 4 bytes piece;
-        scan = subst (λ (x : List ℕ). Scans scan x) same (goes (drop 4 bytes) f.scan);
-      }
+  follows_more goes bytes f = grind arith
 
 none_some : {A : Type 0} (o : Option A) → not (is_some o) ≡ is_none o
-none_some None = refl
-none_some (Some x) = refl
+none_some it = grind arith
 
 pub bad_short : (a : ProtectedArea) (bytes : List ℕ) → Follows a bytes → (length (held a.head) == 4) ≡ false → true ≡ is_bad_area 0x6908 bytes
 unfolding is_bad_area
-bad_short a bytes f e =
-    elim (cases_lt (length bytes) 4) [
-      | inl lt ↦ let t : nat_lt (length bytes) 4 ≡ true = lt-ltb _ _ lt in rw t refl
-      | inr le ↦
-          let l : length (held a.head) ≡ 4 = omega (arith, ap length f.head, length-take 4 bytes, le) in
-          absurd (let q : true ≡ false = sym (eq-eqb _ _ l) ∙ e in cc)
-    ]
+bad_short a bytes f e = grind arith
 
 module _ (a : ProtectedArea) (total : ℕ) (bytes : List ℕ) (f : Follows a bytes) (full : (length (held a.head) == 4) ≡ true) (is_total : total ≡ length bytes) where
   -- the parts of the test
@@ -463,9 +388,7 @@ module _ (a : ProtectedArea) (total : ℕ) (bytes : List ℕ) (f : Follows a byt
 -- The faults of a plain area by its head, and by the entries after it.
 
 earlier : (a b c : Bool) (e : ImageError) → (fault_if a BadTlvMagic <+> fault_if b BadTlvLength) ≡ Some e → (fault_if a BadTlvMagic <+> fault_if (b || c) BadTlvLength) ≡ Some e
-earlier true b c e h = h
-earlier false true c e h = h
-earlier false false c e h = absurd (cc)
+earlier it b c e h = grind arith
 
 -- what is wrong by the head is wrong
 pub head_first : (x : List ℕ) (e : ImageError) → head_fault x ≡ Some e → plain_fault x ≡ Some e
@@ -473,35 +396,26 @@ unfolding head_fault plain_fault
 head_first x e h = earlier (nat_lt (length x) 4 || not (u16_at 0 x == 0x6907)) (nat_lt (u16_at 2 x) 4) (nat_lt (length x) (u16_at 2 x) || is_none (entries_of (drop 4 (area_in x)))) e h
 
 later : (a b c : Bool) → (fault_if a BadTlvMagic <+> fault_if b BadTlvLength) ≡ None → (fault_if a BadTlvMagic <+> fault_if (b || c) BadTlvLength) ≡ fault_if c BadTlvLength
-later true b c h = absurd (cc)
-later false true c h = absurd (cc)
-later false false c h = refl
+later it b c h = grind arith
 
 beyond_head : (x : List ℕ) → head_fault x ≡ None → plain_fault x ≡ fault_if (nat_lt (length x) (u16_at 2 x) || is_none (entries_of (drop 4 (area_in x)))) BadTlvLength
 unfolding head_fault plain_fault
 beyond_head x h = later (nat_lt (length x) 4 || not (u16_at 0 x == 0x6907)) (nat_lt (u16_at 2 x) 4) (nat_lt (length x) (u16_at 2 x) || is_none (entries_of (drop 4 (area_in x)))) h
 
 pub plain_short : (x : List ℕ) → head_fault x ≡ None → length x < u16_at 2 x → plain_fault x ≡ Some BadTlvLength
-plain_short x h lt =
-    let t : nat_lt (length x) (u16_at 2 x) ≡ true = lt-ltb _ _ lt in
-    beyond_head x h ∙ ap (λ (b : Bool). fault_if (b || is_none (entries_of (drop 4 (area_in x)))) BadTlvLength) t
+plain_short x h lt = grind (arith, beyond_head)
 
 plain_whole : (x : List ℕ) → head_fault x ≡ None → u16_at 2 x ≤ length x → plain_fault x ≡ fault_if (is_none (entries_of (drop 4 (area_in x)))) BadTlvLength
-plain_whole x h le =
-    let t : nat_lt (length x) (u16_at 2 x) ≡ false = le-ltb _ _ le in
-    beyond_head x h ∙ ap (λ (b : Bool). fault_if (b || is_none (entries_of (drop 4 (area_in x)))) BadTlvLength) t
+plain_whole x h le = grind (arith, beyond_head)
 
 -- the fault of a plain area that is whole is that of its entries
 pub plain_entries : (x y : List ℕ) → head_fault x ≡ None → u16_at 2 x ≤ length x → y ≡ drop 4 (area_in x)
     → (plain_fault x <+> digest_fault (digests (entries_in (drop 4 (area_in x))))) ≡ entries_fault y
 unfolding entries_fault
-plain_entries x y h le is =
-    ap (λ o. o <+> digest_fault (digests (entries_in (drop 4 (area_in x))))) (plain_whole x h le)
-    ∙ ap (λ (z : List ℕ). fault_if (is_none (entries_of z)) BadTlvLength <+> digest_fault (digests (entries_in z))) (sym is)
+plain_entries x y h le is = grind (arith, plain_whole)
 
 pub plain_none : (x y : List ℕ) → head_fault x ≡ None → u16_at 2 x ≤ length x → y ≡ drop 4 (area_in x) → is_some (entries_of y) ≡ true → plain_fault x ≡ None
-plain_none x y h le is filled =
-    plain_whole x h le ∙ ap (λ (t : Bool). fault_if t BadTlvLength) (not_some (entries_of (drop 4 (area_in x))) (ap (λ (z : List ℕ). is_some (entries_of z)) (sym is) ∙ filled))
+plain_none x y h le is filled = grind (arith, plain_whole, not_some)
 
 -- the digest of 32 bytes, as it stands among the entries
 pub digest_stands : (v : DigestValue) (y : List ℕ) → IsOne v y → length (held v.bytes) ≡ 32 → (take 32 (drop v.start y) ≡ held v.bytes)
@@ -517,9 +431,7 @@ digest_stands v y one len =
     )
 
 pub digest_good : (ds : List (List ℕ)) (d : List ℕ) → ds ≡ d ∷ [] → length d ≡ 32 → digest_fault ds ≡ None
-digest_good ds d e len =
-    let t : (length d == 32) ≡ true = eq-eqb _ _ len in
-    ap digest_fault e ∙ rw t refl
+digest_good ds d e len = grind arith
 
 -- the first fault where header, body and protected area have none
 pub late_fault : (b : List ℕ) → header_fault b ≡ None → body_fault b ≡ None → protected_fault b ≡ None

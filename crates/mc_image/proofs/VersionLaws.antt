@@ -5,7 +5,7 @@ use Rattle.std.specs.Option.{option_map}
 use Rattle.std.specs.Char.{is_ascii_digit}
 use Rattle.std.specs.List.{list_all}
 use Rattle.std.proofs.lemmas.Bool.Decides.{nat_tests}
-use Rattle.std.proofs.lemmas.Bool.{eqb-true, eqb-false, and_parts}
+use Rattle.std.proofs.lemmas.Bool.{eqb-true, and_parts}
 use Rattle.std.proofs.lemmas.List.{nil_from_length}
 use Rattle.std.proofs.lemmas.Option.{cond_some}
 use Rattle.mc_image.specs.VersionText.{value_after, IsNumeral, Follows, IsForm}
@@ -92,9 +92,7 @@ zero_numeral : (c : ℕ) → c ≡ 48 → IsNumeral (c ∷ []) 0
 zero_numeral c is = record { digits = rw is refl; some = omega arith; plain = λ h. refl; value = omega (arith, is) }
 
 more_numeral : (c : ℕ) (ds : List ℕ) → (c == 48) ≡ false → is_ascii_digit c ≡ true → list_all is_ascii_digit ds ≡ true → IsNumeral (c ∷ ds) (value_after (c - 48) ds)
-more_numeral c ds t d all =
-    let start : c - 48 ≡ 10 * 0 + (c - 48) = omega arith in
-    record { digits = rw d all; some = omega arith; plain = λ h. absurd (eqb-false _ _ t h); value = ap (λ (n : ℕ). value_after n ds) start }
+more_numeral c ds t d all = grind arith
 
 pub numeral_takes : (t : List ℕ) (x : ℕ × List ℕ) → numeral_at t ≡ Some x → ReadsNumeral t x
 unfolding numeral_at
@@ -141,16 +139,11 @@ nothing_follows [] (n ∷ ns) f = absurd f
 nothing_follows (s ∷ ss) (n ∷ ns) f = let e = f.2 in absurd cc
 
 then_some : {A B : Type 0} (f : A → Option B) (o : Option A) (y : B) → option_and_then f o ≡ Some y → (x : A) × (o ≡ Some x) × (f x ≡ Some y)
-then_some f None y e = absurd cc
-then_some f (Some x) y e = (x, refl, e)
+then_some f it y e = grind arith
 
 -- the separator stands in front
 in_prefix : {A : Type 0} (c s : ℕ) (o : Option A) (y : A) → cond (c == s) o None ≡ Some y → (c ≡ s) × (o ≡ Some y)
-in_prefix c s o y e =
-    elim (c == s) as (λ b. (c == s) ≡ b → cond b o None ≡ Some y → (c ≡ s) × (o ≡ Some y)) [
-      | true ↦ λ t f. (eqb-true _ _ t, f)
-      | false ↦ λ t f. absurd cc
-    ] refl e
+in_prefix c s o y e = grind arith
 
 -- what is read after a number
 pub record Takes (ss rest xs : List ℕ) : Type 0 where
@@ -220,8 +213,4 @@ form_takes t xs e =
 -- a text in the form is read
 pub form_again : (t ns : List ℕ) → IsForm t ns → numbers_in t ≡ Some (all_padded ns)
 unfolding numbers_in
-form_again t [] f = absurd f
-form_again t (n ∷ ns) f =
-    let read : numeral_at t ≡ Some (capped_number n, f.1) = ap numeral_at f.2 ∙ numeral_again f.0 n f.1 f.3 (follows_stops separators f.1 ns (refl, (refl, (refl, tt))) f.4) in
-    ap (λ o. option_and_then (λ x. option_map (λ ns. x.0 ∷ ns) (parts_after separators x.1)) o) read
-    ∙ ap (λ o. option_map (λ ns. capped_number n ∷ ns) o) (parts_again separators f.1 ns (refl, (refl, (refl, tt))) f.4)
+form_again t it f = grind (arith, numeral_again, follows_stops, parts_again)

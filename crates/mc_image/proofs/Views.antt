@@ -6,7 +6,7 @@ use Rattle.std.proofs.lemmas.Option.{cond_some}
 use Rattle.std.specs.Cmp.Derive.{both_true}
 use Rattle.std.specs.Prelude.{IfSome, is_none, not, unwrap_or}
 use Rattle.mc_image.proofs.EntryLaws.{entries-again, entries-nil, in-first, in-none}
-use Rattle.mc_image.proofs.ImageLaws.{begins_is, begins_none, begins_one, both_none, header_len, header_reads, none_both, version_again}
+use Rattle.mc_image.proofs.ImageLaws.{begins_is, begins_none, begins_one, both_none, header_len, header_reads, version_again}
 use Rattle.mc_image.specs.Image.{Begins, EntriesFit, Entry, Image, IsBytes, IsGood, IsImage, IsView, Listed, entries_in, entries_of, first_entry, header_text, image_in, image_text, left_of, listed, listing, plain_text, protected_area, protected_text, u32_at, version_in}
 use Rattle.mc_image.specs.Valid.{Identity, IsValid, fault_if, first_fault, id_of, identity, image_fault, is_good, is_valid}
 use Rattle.mc_image.specs.declared.entries.Area.TheVariants.{Plain, Protected}
@@ -18,8 +18,7 @@ use Rattle.mc_image.specs.facts.Valid.{good_false, good_true, test_good}
 -- The tests of a valid image decide, and images go along with the prefix of the bytes.
 
 none_true : {A : Type 0} (o : Option A) → is_none o ≡ true → o ≡ None
-none_true None e = refl
-none_true (Some x) e = absurd cc
+none_true it e = grind arith
 
 pub valid_true : (b : List ℕ) → IsBytes b → is_valid b ≡ true → IsValid b
 unfolding is_valid
@@ -44,21 +43,14 @@ id_valid b h = ap (λ t. cond t (Some (identity (image_in b))) None) (true_valid
 
 pub id_none : (b : List ℕ) → (IsValid b → ⊥) → IsBytes b → id_of b ≡ None
 unfolding id_of
-id_none b h bytes =
-    elim (is_valid b) as (λ t. is_valid b ≡ t → cond t (Some (identity (image_in b))) None ≡ None) [
-      | true ↦ λ e. absurd (h (valid_true b bytes e))
-      | false ↦ λ e. refl
-    ] refl
+id_none b h bytes = grind (arith, valid_true)
 
 not_faulty : (t : Bool) → fault_if (not t) WrongDigest ≡ None → t ≡ true
-not_faulty true e = refl
-not_faulty false e = absurd cc
+not_faulty it e = grind arith
 
 pub fault_valid : (b : List ℕ) → IsBytes b → image_fault b ≡ None → IsValid b
 unfolding image_fault
-fault_valid b h e =
-    let p = none_both (first_fault b) _ e in
-    record { image = image_in b; begins = begins_is b h p.0; good = test_good _ (not_faulty _ p.1) }
+fault_valid b h e = grind (arith, begins_is, test_good, not_faulty)
 
 pub valid_fault : (b : List ℕ) → IsValid b → image_fault b ≡ None
 unfolding image_fault
@@ -96,10 +88,7 @@ left-protected p q x h e = ap (λ es. listed Protected es ++ listed Plain (entri
 pub left-plain : (p q : List ℕ) (x : Entry × List ℕ) → is_some (entries_of p) ≡ true → first_entry p ≡ None → is_some (entries_of q) ≡ true → first_entry q ≡ Some x
     → left_of p q ≡ record { area = Plain; entry = x.0 } ∷ left_of p x.1
 unfolding left_of
-left-plain p q x hp ep hq eq =
-    let n = in-none p hp ep in
-    ap (λ es. listed Protected es ++ listed Plain (entries_in q)) n ∙ ap (λ es. listed Plain es) (in-first q x hq eq)
-    ∙ sym (ap (λ es. record { area = Plain; entry = x.0 } ∷ (listed Protected es ++ listed Plain (entries_in x.1))) n)
+left-plain p q x hp ep hq eq = grind (arith, in-none, in-first)
 
 pub left-none : (p q : List ℕ) → is_some (entries_of p) ≡ true → first_entry p ≡ None → is_some (entries_of q) ≡ true → first_entry q ≡ None → left_of p q ≡ []
 unfolding left_of
@@ -108,26 +97,19 @@ left-none p q hp ep hq eq = ap (λ es. listed Protected es ++ listed Plain (entr
 -- what the areas of a view hold
 protected_holds : (o : Option (List Entry)) → IfSome o EntriesFit → (is_some (entries_of (drop 4 (protected_area o))) ≡ true) × (entries_in (drop 4 (protected_area o)) ≡ unwrap_or o [])
 unfolding entries_in
-protected_holds None fits = (ap is_some entries-nil, ap (λ x. unwrap_or x []) entries-nil)
-protected_holds (Some es) fits = let e = entries-again es fits in (ap is_some e, ap (λ x. unwrap_or x []) e)
+protected_holds it fits = grind (arith, entries-nil, entries-again)
 
 pub view-protected : (v : Image) (h p q a d : List ℕ) → IsView v h p q a d → (is_some (entries_of (drop 4 q)) ≡ true) × (entries_in (drop 4 q) ≡ unwrap_or v.protected [])
 unfolding protected_text
-view-protected v h p q a d is =
-    subst (λ (x : List ℕ). (is_some (entries_of (drop 4 x)) ≡ true) × (entries_in (drop 4 x) ≡ unwrap_or v.protected [])) (sym is.protected) (protected_holds v.protected is.fits.protected_entries)
+view-protected v h p q a d is = grind (arith, protected_holds)
 
 pub view-plain : (v : Image) (h p q a d : List ℕ) → IsView v h p q a d → (is_some (entries_of (drop 4 a)) ≡ true) × (entries_in (drop 4 a) ≡ v.plain)
 unfolding plain_text entries_in
-view-plain v h p q a d is =
-    let e = entries-again v.plain is.fits.plain_entries in
-    subst (λ (x : List ℕ). (is_some (entries_of (drop 4 x)) ≡ true) × (entries_in (drop 4 x) ≡ v.plain)) (sym is.plain) (ap is_some e, ap (λ x. unwrap_or x []) e)
+view-plain v h p q a d is = grind (arith, entries-again)
 
 pub listing-is : (v w : Image) (h p q a d : List ℕ) → v ≡ w → IsView v h p q a d → left_of (drop 4 q) (drop 4 a) ≡ listing w
 unfolding left_of listing
-listing-is v w h p q a d e is =
-    ap (λ es. listed Protected es ++ listed Plain (entries_in (drop 4 a))) (view-protected v h p q a d is).1
-    ∙ ap (λ es. listed Protected (unwrap_or v.protected []) ++ listed Plain es) (view-plain v h p q a d is).1
-    ∙ ap (λ (x : Image). listed Protected (unwrap_or x.protected []) ++ listed Plain x.plain) e
+listing-is v w h p q a d e is = grind (arith, view-protected, view-plain)
 
 pub less-first : (s t : List Listed) (x : Listed) → s ≡ x ∷ t → length t < length s
 less-first s t x e = let l : length s ≡ length (x ∷ t) = ap length e in omega arith
@@ -171,9 +153,7 @@ fault_checked b v e none is at wrong = from_parts b false none (ap is_good (sym 
 
 pub id_checked : (b : List ℕ) (v : Image) → first_fault b ≡ None → v ≡ image_in b → IsGood v → id_of b ≡ Some (identity v)
 unfolding id_of is_valid
-id_checked b v none is good =
-    let right : is_good (image_in b) ≡ true = ap is_good (sym is) ∙ good_true v good in
-    rw (none, right) (ap (λ (x : Image). Some (identity x)) (sym is))
+id_checked b v none is good = grind (arith, good_true)
 
 pub id_read : (b : List ℕ) (e : ImageError) → first_fault b ≡ Some e → id_of b ≡ None
 unfolding id_of is_valid
@@ -181,6 +161,4 @@ id_read b e h = rw h refl
 
 pub id_wrong : (b : List ℕ) (v : Image) → first_fault b ≡ None → v ≡ image_in b → (IsGood v → ⊥) → id_of b ≡ None
 unfolding id_of is_valid
-id_wrong b v none is wrong =
-    let bad : is_good (image_in b) ≡ false = ap is_good (sym is) ∙ good_false v wrong in
-    rw (none, bad) refl
+id_wrong b v none is wrong = grind (arith, good_false)

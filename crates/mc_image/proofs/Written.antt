@@ -11,7 +11,7 @@ use Rattle.std.specs.Prelude.{IfSome, OnOk, cond, if◌then◌else◌, nat_lt, �
 use Rattle.std.specs.Result.{is_ok}
 use Rattle.byteorder.specs.Endian.{little_bytes}
 use Rattle.mc_image.proofs.ImageLaws.{header_len}
-use Rattle.mc_image.specs.Image.{EntriesFit, Entry, EntryFits, Image, IsGood, IsImage, area_text, covered_text, digest_of, digests, entries_text, entry_text, header_text, image_text, plain_text, protected_area, protected_text, version_text}
+use Rattle.mc_image.specs.Image.{EntriesFit, Entry, EntryFits, IsGood, IsImage, area_text, covered_text, digest_of, digests, entries_text, entry_text, header_text, image_text, plain_text, protected_area, protected_text, version_text}
 use Rattle.mc_image.specs.Writing.{AreSizes, AreSmall, FieldsFit, area_of, entry_view, image_of, is_too_large, sizes_text, undigested, views, with_digest, write_fault}
 use Rattle.mc_image.specs.declared.error.ImageError.{ImageError}
 use Rattle.mc_image.specs.declared.error.ImageError.TheVariants.{ManyDigests, TooLarge}
@@ -31,17 +31,13 @@ protected_size p = refl
 
 pub plain_size : (p : ImageParts) → length (plain_text (image_of p)) ≡ 40 + length (entries_text (views p.plain.now))
 unfolding image_of with_digest undigested plain_text
-plain_size p =
-    let d : List ℕ = sha256 (covered_text (undigested p)) in
-    omega (arith, length-append d (entries_text (views p.plain.now)), length-sha256 (covered_text (undigested p)))
+plain_size p = grind (arith, length-append, length-sha256)
 
 or-right : (a b : Bool) → b ≡ true → (a || b) ≡ true
-or-right true b e = refl
-or-right false b e = e
+or-right it b e = grind arith
 
 or-left : (a b : Bool) → a ≡ true → (a || b) ≡ true
-or-left true b e = refl
-or-left false b e = absurd cc
+or-left it b e = grind arith
 
 pub large_header : (p : ImageParts) → 65535 < 32 + length p.header_rest.now → is_too_large p ≡ true
 unfolding is_too_large
@@ -53,32 +49,17 @@ large_payload p h = or-right (nat_lt 65535 (length (header_text (image_of p)))) 
 
 pub large_protected : (p : ImageParts) → 65535 < length (protected_area (area_of (views p.protected.now))) → is_too_large p ≡ true
 unfolding is_too_large
-large_protected p h =
-    let e : length (protected_text (image_of p)) ≡ length (protected_area (area_of (views p.protected.now))) = ap length (protected_size p) in
-    let lt : 65535 < length (protected_text (image_of p)) = omega (arith, e, h) in
-    or-right (nat_lt 65535 (length (header_text (image_of p)))) _ (or-right (nat_lt (2 ^ 24) (length p.payload.now)) _
-    (or-left (nat_lt 65535 (length (protected_text (image_of p)))) _ (lt-ltb _ _ lt)))
+large_protected p h = grind (arith, protected_size, or-right, or-left, lt-ltb)
 
 pub large_plain : (p : ImageParts) → 65535 < 40 + length (entries_text (views p.plain.now)) → is_too_large p ≡ true
 unfolding is_too_large
-large_plain p h =
-    let lt : 65535 < length (plain_text (image_of p)) = omega (arith, plain_size p, h) in
-    or-right (nat_lt 65535 (length (header_text (image_of p)))) _ (or-right (nat_lt (2 ^ 24) (length p.payload.now)) _
-    (or-right (nat_lt 65535 (length (protected_text (image_of p)))) _ (lt-ltb _ _ lt)))
+large_plain p h = grind (arith, plain_size, or-right, lt-ltb)
 
 pub not_large : (p : ImageParts) (q a : ℕ) → length p.header_rest.now ≤ 65503 → length p.payload.now ≤ 2 ^ 24 → q < 2 ^ 16 → q ≡ length (protected_area (area_of (views p.protected.now))) → a < 2 ^ 16
     → a ≡ 40 + length (entries_text (views p.plain.now))
     → (is_too_large p ≡ false) × AreSizes p (32 + length p.header_rest.now) (length p.payload.now) q a
 unfolding is_too_large
-not_large p q a h1 h2 h3 h4 h5 h6 =
-    let e1 = header_size p in
-    let e2 : length (protected_text (image_of p)) ≡ length (protected_area (area_of (views p.protected.now))) = ap length (protected_size p) in
-    let e3 = plain_size p in
-    let t1 : nat_lt 65535 (length (header_text (image_of p))) ≡ false = le-ltb _ _ (omega arith) in
-    let t2 : nat_lt (2 ^ 24) (length p.payload.now) ≡ false = le-ltb _ _ h2 in
-    let t3 : nat_lt 65535 (length (protected_text (image_of p))) ≡ false = le-ltb _ _ (omega (arith, e2, h4)) in
-    let t4 : nat_lt 65535 (length (plain_text (image_of p))) ≡ false = le-ltb _ _ (omega (arith, e3, h6)) in
-    (rw (t1, t2, t3, t4) refl, record { header = sym e1; payload = refl; protected = h4 ∙ sym e2; plain = h6 ∙ sym e3 })
+not_large p q a h1 h2 h3 h4 h5 h6 = grind (arith, header_size, protected_size, plain_size, le-ltb)
 
 -- ---- what is written
 
@@ -88,11 +69,7 @@ payload_is p = refl
 
 header-written : (p : ImageParts) (h n q a : ℕ) → AreSizes p h n q a → sizes_text p.load h q n ++ (version_text p.version ++ (little_bytes 4 p.padding ++ p.header_rest.now)) ≡ header_text (image_of p)
 unfolding image_of with_digest undigested header_text
-header-written p h n q a is =
-    let rest : List ℕ = version_text p.version ++ (little_bytes 4 p.padding ++ p.header_rest.now) in
-    ap (λ (x : ℕ). sizes_text p.load x q n ++ rest) (is.header ∙ header_size p)
-    ∙ ap (λ (x : ℕ). sizes_text p.load (32 + length p.header_rest.now) x n ++ rest) is.protected
-    ∙ ap (λ (x : ℕ). sizes_text p.load (32 + length p.header_rest.now) (length (protected_text (image_of p))) x ++ rest) is.payload
+header-written p h n q a is = grind arith
 
 -- what is appended in three steps is what the digest covers
 pub covered-written : (p : ImageParts) (h n q a : ℕ) (o x y z : List ℕ) → AreSizes p h n q a
@@ -100,15 +77,7 @@ pub covered-written : (p : ImageParts) (h n q a : ℕ) (o x y z : List ℕ) → 
     → z ≡ y ++ protected_area (area_of (views p.protected.now))
     → z ≡ o ++ covered_text (image_of p)
 unfolding covered_text
-covered-written p h n q a o x y z is e1 e2 e3 =
-    let v : Image = image_of p in
-    let head : x ≡ o ++ header_text v = e1 ∙ ap (λ (t : List ℕ). o ++ t) (header-written p h n q a is) in
-    e3 ∙ ap (λ (t : List ℕ). t ++ protected_area (area_of (views p.protected.now))) e2
-    ∙ append_assoc x p.payload.now (protected_area (area_of (views p.protected.now)))
-    ∙ ap (λ (t : List ℕ). t ++ (p.payload.now ++ protected_area (area_of (views p.protected.now)))) head
-    ∙ append_assoc o (header_text v) (p.payload.now ++ protected_area (area_of (views p.protected.now)))
-    ∙ ap (λ (t : List ℕ). o ++ (header_text v ++ (t ++ protected_area (area_of (views p.protected.now))))) (payload_is p)
-    ∙ ap (λ (t : List ℕ). o ++ (header_text v ++ (v.payload ++ t))) (sym (protected_size p))
+covered-written p h n q a o x y z is e1 e2 e3 = grind (arith, header-written, append_assoc, payload_is, protected_size)
 
 -- what the digest covers does not hang on it
 pub digest-is : (p : ImageParts) → sha256 (covered_text (image_of p)) ≡ sha256 (covered_text (undigested p))
@@ -123,16 +92,7 @@ plain-written p = refl
 pub image-written : (p : ImageParts) (o x y d : List ℕ) (n : ℕ) → n ≡ length o → x ≡ o ++ covered_text (image_of p) → d ≡ sha256 (drop n x)
     → y ≡ x ++ area_text 0x6907 (record { kind = 0x10; value = d } ∷ views p.plain.now) → y ≡ o ++ image_text (image_of p)
 unfolding image_text covered_text
-image-written p o x y d n len e1 e2 e3 =
-    let v : Image = image_of p in
-    let beyond : drop n x ≡ covered_text v = ap (λ (t : List ℕ). drop n t) e1 ∙ drop_at o (covered_text v) n (sym len) in
-    let digest : d ≡ sha256 (covered_text (undigested p)) = e2 ∙ ap sha256 beyond ∙ digest-is p in
-    e3 ∙ ap (λ (t : List ℕ). x ++ area_text 0x6907 (record { kind = 0x10; value = t } ∷ views p.plain.now)) digest
-    ∙ ap (λ (t : List ℕ). x ++ t) (plain-written p)
-    ∙ ap (λ (t : List ℕ). t ++ plain_text v) e1
-    ∙ append_assoc o (header_text v ++ (v.payload ++ protected_text v)) (plain_text v)
-    ∙ ap (λ (t : List ℕ). o ++ t) (append_assoc (header_text v) (v.payload ++ protected_text v) (plain_text v))
-    ∙ ap (λ (t : List ℕ). o ++ (header_text v ++ t)) (append_assoc v.payload (protected_text v) (plain_text v))
+image-written p o x y d n len e1 e2 e3 = grind (arith, drop_at, digest-is, plain-written, append_assoc)
 
 digest-first : (p : ImageParts) → digest_of (image_of p) ≡ sha256 (covered_text (undigested p))
 unfolding digest_of image_of with_digest undigested
@@ -150,8 +110,7 @@ no-digests (e ∷ es) h =
     ap (λ t. cond t (e.1.now ∷ digests (views es)) (digests (views es))) parts.0 ∙ no-digests es parts.1
 
 area-fits : (es : List Entry) → EntriesFit es → IfSome (area_of es) EntriesFit
-area-fits [] h = tt
-area-fits (e ∷ es) h = h
+area-fits it h = grind arith
 
 pub image-fits : (p : ImageParts) → is_too_large p ≡ false → FieldsFit p → EntriesFit (views p.protected.now) → EntriesFit (views p.plain.now) → list_any (λ e. e.0 == 0x10) p.plain.now ≡ false
     → IsImage (image_of p)
@@ -193,21 +152,9 @@ pub fault-none : (p : ImageParts) → is_too_large p ≡ false → list_any (λ 
 unfolding write_fault
 fault-none p e f = rw (e, f) refl
 
-protected_len : (es : List Entry) → length (protected_area (area_of es)) ≤ 4 + length (entries_text es)
-protected_len [] = omega arith
-protected_len (e ∷ es) = omega arith
-
 -- small parts are written unless memory runs out
 pub fault-small : (p : ImageParts) → AreSmall p → write_fault p ≡ None
-fault-small p small =
-    let q : ℕ = length (protected_area (area_of (views p.protected.now))) in
-    let a : ℕ = 40 + length (entries_text (views p.plain.now)) in
-    let h1 = small.header in
-    let h3 = small.protected in
-    let h4 = small.plain in
-    let most = protected_len (views p.protected.now) in
-    let sizes = not_large p q a (omega arith) small.payload (omega arith) refl (omega arith) refl in
-    fault-none p sizes.0 small.one_digest
+fault-small p small = grind (arith, not_large, fault-none)
 
 pub not_small : (p : ImageParts) (e d : ImageError) → write_fault p ≡ Some e → AreSmall p → e ≡ d
 not_small p e d fault small = let none = fault-small p small in absurd (cc)
@@ -252,8 +199,7 @@ pushed (y ∷ ys) x h k = (h.0, pushed ys x h.1 k)
 -- Bytes that are appended step by step.
 
 pub on_ok : {A E P Q : Type 0} (r : Result A E) → OnOk r P → (P → Q) → OnOk r Q
-on_ok (Ok x) p f = f p
-on_ok (Err e) p f = tt
+on_ok it p f = grind arith
 
 -- what a slice appends, and what it keeps
 pub extended : {A E : Type 0} (r : Result A E) (x y t : List ℕ) → y ≡ (if is_ok r then x ++ t else x) → OnOk r (y ≡ x ++ t) × StartsWith y x

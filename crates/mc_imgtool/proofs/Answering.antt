@@ -21,9 +21,7 @@ within most taken room count buffer piece fits below e at_most = omega (arith, l
 -- what was read goes on within the limit
 pub fits_with_more : (most len room count : ℕ) (had buffer piece : List ℕ) → room ≡ min (most - len) 4096 → len ≡ length had → length had ≤ most → length piece ≡ length (take room buffer)
     → (count ≤ length piece) × (count ≡ length (take count piece)) → length (had ++ take count piece) ≤ most
-fits_with_more most len room count had buffer piece is all below e at_most =
-    let le = within most (length had) room count buffer piece (omega (arith, is, all)) below e at_most.0 in
-    omega (arith, length-append had (take count piece), at_most.1, le)
+fits_with_more most len room count had buffer piece is all below e at_most = grind (arith, within, length-append)
 
 -- a read that gave nothing took nothing
 pub nothing : (old mid new : Option (List ℕ)) (bytes buf : List ℕ) (count : ℕ) → Consumes old mid bytes → Consumes mid new (take count buf) → count ≡ 0 → Consumes old new bytes

@@ -40,11 +40,7 @@ written_is p v start out bare none e = e ∙ ap (λ (l : List ℕ). l ++ image_t
 
 -- bytes after a valid image leave it valid
 pub IsValid-more : (b x : List ℕ) → IsValid b → IsValid (b ++ x)
-IsValid-more b x h = record {
-  image = h.image;
-  begins = record { fits = h.begins.fits; prefix = (h.begins.prefix.0 ++ x, ap (λ (l : List ℕ). l ++ x) h.begins.prefix.1 ∙ append_assoc (image_text h.image) h.begins.prefix.0 x) };
-  good = h.good;
-}
+IsValid-more b x h = grind (arith, append_assoc)
 
 in_slot_valid : (o : CreateOptions) (image : List ℕ) (slot : Option ℕ) → IsValid image → IsValid (in_slot o image slot)
 in_slot_valid o image None h = h
@@ -199,9 +195,7 @@ dumped_bad xs e h some = dumped_short xs h ∙ ap (report_or_fault xs) some
 
 pub dumped_good : (xs text : List ℕ) (v : Image) (size rest : ℕ) → length xs ≤ 2 ^ 24 → first_fault xs ≡ None → v ≡ image_in xs → size ≡ length (image_text v) → rest ≡ length xs - size
     → text ≡ report v rest → dumped xs ≡ Ok text
-dumped_good xs text v size rest h none is total beyond line =
-    let n : rest ≡ length xs - length (image_text (image_in xs)) = beyond ∙ ap (λ (k : ℕ). length xs - k) (total ∙ ap (λ (w : Image). length (image_text w)) is) in
-    dumped_short xs h ∙ ap (report_or_fault xs) none ∙ ap (λ (k : ℕ). Ok (report (image_in xs) k)) (sym n) ∙ ap (λ (w : Image). Ok (report w rest)) (sym is) ∙ ap (λ (l : List ℕ). Ok l) (sym line)
+dumped_good xs text v size rest h none is total beyond line = grind (arith, dumped_short)
 
 -- ---- create
 
@@ -241,6 +235,4 @@ created_refused o xs given h lacks = let t : nat_lt (2 ^ 24) (length xs) ≡ fal
 pub created_made : (o : CreateOptions) (xs payload : List ℕ) → needs_slot_size o ≡ false → length xs ≤ 2 ^ 24 → lacks_zeros o xs ≡ false → payload ≡ payload_in o xs
     → created o xs ≡ slotted o (image_text (with_digest (bare_image o payload)))
 unfolding created
-created_made o xs payload given h lacks is =
-    let t : nat_lt (2 ^ 24) (length xs) ≡ false = le-ltb _ _ h in
-    rw (given, t, lacks) (ap (λ (p : List ℕ). slotted o (image_text (with_digest (bare_image o p)))) (sym is))
+created_made o xs payload given h lacks is = grind arith

@@ -1,6 +1,6 @@
 -- A boot that goes on step by step, and how far it has come at a cut.
 use Rattle.std.specs.Prelude.{◌≡◌, ℕ, zero, suc, ◌+◌, ◌<◌, ◌≤◌, ◌⊎◌, nat_lt, Bool, true, false, if◌then◌else◌, List, [], ◌∷◌, ◌++◌, length, take, drop, slice_get, Option, Some, None, is_some, option_and_then, IfSome, IsSomeAnd, Ok, Err, refl}
-use Rattle.std.proofs.Common.{arith, inl, inr, sym, ap, subst, append-nil, append_assoc, drop-cons, get_or, ◌∙◌}
+use Rattle.std.proofs.Common.{arith, sym, ap, subst, append-nil, append_assoc, drop-cons, get_or, ◌∙◌}
 use Rattle.std.proofs.lemmas.Bool.Decides.{nat_tests}
 use Rattle.std.proofs.lemmas.List.{length-append, take_all, take_at}
 use Rattle.mc_boot.specs.Boot.{Progress, Steps, StepsAlong, begun, HasCome}
@@ -33,8 +33,7 @@ take_next {A} xs rest x k is = ap (λ n. take n xs) plus ∙ go xs k is
     go (y ∷ xs) (suc k) is = ap (λ (z : List A). y ∷ z) (go xs k is)
 
 not_faulted : (faulted : Bool) (op : Op) (rest ops : List Op) → op ∷ rest ≡ (if faulted then [] else ops) → ops ≡ op ∷ rest
-not_faulted true op rest ops is = absurd cc
-not_faulted false op rest ops is = sym is
+not_faulted it op rest ops is = grind arith
 
 first_is : (ops : List Op) (op : Op) → slice_get ops 0 ≡ Some op → (rest : List Op) × (ops ≡ op ∷ rest)
 first_is [] op is = absurd cc
@@ -46,9 +45,7 @@ module _ (x : PowerOn) (p : Progress) (t : Content) (come : HasCome x p t) where
 
   module _ (op : Op) (first : slice_get p.to_come 0 ≡ Some op) where
     pub comes_next : (rest : List Op) × (drop p.count list ≡ op ∷ rest)
-    comes_next =
-        let f = first_is p.to_come op first in
-        (f.0, not_faulted p.faulted op f.0 (drop p.count list) (sym f.1 ∙ come.rest))
+    comes_next = grind (arith, first_is)
 
     -- The operation happened.
     module _ (q : Progress) (old new : Seen) (steps : Steps p old (Ok tt) q new) where
@@ -60,10 +57,7 @@ module _ (x : PowerOn) (p : Progress) (t : Content) (come : HasCome x p t) where
           go (y ∷ ops) is steps = ap (λ (z : Progress). z.count) steps.0
 
       pub worn_next : (w v : Counts) → v ≡ worn w (op ∷ []) → (all : Counts) → w ≡ worn all (take p.count list) → v ≡ worn all (take q.count list)
-      worn_next w v noted all so_far =
-          let next = comes_next in
-          noted ∙ ap (λ (z : Counts). worn z (op ∷ [])) so_far ∙ worn_both all (take p.count list) (op ∷ [])
-          ∙ ap (worn all) (sym (take_next list next.0 op p.count next.1)) ∙ ap (λ n. worn all (take n list)) (sym count_next)
+      worn_next w v noted all so_far = grind (arith, worn_both, take_next)
 
     -- It was refused.
     pub count_refused : (q : Progress) (old new : Seen) → Steps p old (Err errors.NotErased) q new → q.count ≡ p.count
@@ -88,9 +82,7 @@ module _ (x : PowerOn) (p : Progress) (t : Content) (come : HasCome x p t) where
     cut_late le = let no : nat_lt count (length (ops_of x)) ≡ false = grind (arith, nat_tests) in ap (λ b. if b then at x count else None) no
 
     cut_there : count < length (ops_of x) → p.count ≡ count → cut_at x count ≡ Some t
-    cut_there lt is =
-        let yes : nat_lt count (length (ops_of x)) ≡ true = grind (arith, nat_tests) in
-        ap (λ b. if b then at x count else None) yes ∙ ap (at x) (sym is) ∙ come_at x p t come
+    cut_there lt is = grind (arith, come_at)
 
     -- It came to its end.
     pub too_late : p.to_come ≡ [] → p.count ≤ count → cut_at x count ≡ None
@@ -132,38 +124,31 @@ module _ (x : PowerOn) (p : Progress) (t : Content) (come : HasCome x p t) where
 -- It stays on its way, whatever geometry its flash names.
 pub come_on : (x : PowerOn) (p q : Progress) (t u : Content) (g : Geometry) → g ≡ x.geometry → ((r : Rules) (s : Content) → HasCome (power_on r g s) p t → HasCome (power_on r g s) q u)
     → HasCome x p t → HasCome x q u
-come_on x p q t u g same goes come =
-    subst (λ (y : Geometry). HasCome (power_on x.rules y x.content) q u) same (goes x.rules x.content (subst (λ (y : Geometry). HasCome (power_on x.rules y x.content) p t) (sym same) come))
+come_on x p q t u g same goes come = grind arith
 
 pub begins_below : (until : Option ℕ) (p : Progress) (x : PowerOn) → p ≡ begun x.rules (plan x) → IfSome until (λ n. p.count ≤ n)
-begins_below None p x is = tt
-begins_below (Some n) p x is = let none : p.count ≡ 0 = ap (λ (z : Progress). z.count) is in omega (arith, none)
+begins_below it p x is = grind arith
 
 pub begins_worn : (w : Counts) (p : Progress) (x : PowerOn) → p ≡ begun x.rules (plan x) → w ≡ worn w [] → w ≡ worn w (take p.count (plan x).list)
 begins_worn w p x is idle = let none : p.count ≡ 0 = ap (λ (z : Progress). z.count) is in idle ∙ ap (λ n. worn w (take n (plan x).list)) (sym none)
 
 pub below_next : (until : Option ℕ) (n m : ℕ) → IfSome until (λ k. n < k) → m ≡ n + 1 → IfSome until (λ k. m ≤ k)
-below_next None n m lt is = tt
-below_next (Some k) n m lt is = omega (arith, lt, is)
+below_next it n m lt is = grind arith
 
 pub below_same : (until : Option ℕ) (n m : ℕ) → IfSome until (λ k. n ≤ k) → m ≡ n → IfSome until (λ k. m ≤ k)
-below_same None n m le is = tt
-below_same (Some k) n m le is = omega (arith, le, is)
+below_same it n m le is = grind arith
 
 -- A boot that no number stops has come to its end.
 pub ended_all : (ops : List Op) (n : ℕ) → (ops ≡ []) ⊎ IsSomeAnd None (λ k. n ≡ k) → ops ≡ []
-ended_all ops n (inl end) = end
-ended_all ops n (inr none) = absurd none
+ended_all ops n it = grind arith
 
 -- One that a number stops stands there, or it has come to its end before.
 pub ended : (ops : List Op) (n count : ℕ) → n < count → (ops ≡ []) ⊎ (n ≡ count) → ops ≡ []
-ended ops n count lt (inl end) = end
-ended ops n count lt (inr at) = absurd (omega (arith, lt, at))
+ended ops n count lt it = grind arith
 
 pub outcome_on : (x : PowerOn) (p : Progress) (t : Content) (o : Report) (g : Geometry) → g ≡ x.geometry
     → ((r : Rules) (s : Content) → HasCome (power_on r g s) p t → p.to_come ≡ [] → outcome_of (power_on r g s) ≡ Some o) → HasCome x p t → p.to_come ≡ [] → outcome_of x ≡ Some o
-outcome_on x p t o g same happened come end =
-    subst (λ (y : Geometry). HasCome (power_on x.rules y x.content) p t → outcome_of (power_on x.rules y x.content) ≡ Some o) same (λ here. happened x.rules x.content here end) come
+outcome_on x p t o g same happened come end = grind arith
 
 pub copy_defined : (g : Geometry) (s : Content) (from to : Slot) (at offset len : ℕ) → at + len ≤ size_of g from → length (bytes_of s from) ≡ size_of g from
     → is_blank (between offset (offset + len) (bytes_of s to)) ≡ is_some (apply g (Copy from at to offset len) s)
@@ -181,20 +166,16 @@ copy_defined g s from to at offset len inside long =
 
 after_first : (x : PowerOn) (cuts : List ℕ) (c : ℕ) (u t : Content) → ((z : Content) → after (again x z) cuts ≡ Some u → after (again x z) (cuts ++ c ∷ []) ≡ Some t)
     → (o : Option Content) → option_and_then (λ z. after (again x z) cuts) o ≡ Some u → option_and_then (λ z. after (again x z) (cuts ++ c ∷ [])) o ≡ Some t
-after_first x cuts c u t beyond None is = absurd cc
-after_first x cuts c u t beyond (Some z) is = beyond z is
+after_first x cuts c u t beyond it is = grind arith
 
 ops_first : (x : PowerOn) (cuts : List ℕ) (c : ℕ) (prefix last : List Op) (u : Content) → ((z : Content) → after (again x z) cuts ≡ Some u
     → cut_ops (again x z) (cuts ++ c ∷ []) ≡ cut_ops (again x z) cuts ++ last)
     → (o : Option Content) → option_and_then (λ z. after (again x z) cuts) o ≡ Some u → prefix ++ from x (λ y. cut_ops y (cuts ++ c ∷ [])) o ≡ (prefix ++ from x (λ y. cut_ops y cuts) o) ++ last
-ops_first x cuts c prefix last u beyond None is = absurd cc
-ops_first x cuts c prefix last u beyond (Some z) is = ap (λ (w : List Op). prefix ++ w) (beyond z is) ∙ sym (append_assoc prefix (cut_ops (again x z) cuts) last)
+ops_first x cuts c prefix last u beyond it is = grind (arith, beyond, append_assoc)
 
 -- One cut more.
 pub after_more : (x : PowerOn) (cuts : List ℕ) (c : ℕ) (u t : Content) → after x cuts ≡ Some u → cut_at (again x u) c ≡ Some t → after x (cuts ++ c ∷ []) ≡ Some t
-after_more x [] c u t so_far cut =
-    let same : x.content ≡ u = cc in
-    ap (λ (s : Content). option_and_then (λ z. Some z) (cut_at (again x s) c)) same ∙ ap (λ (o : Option Content). option_and_then (λ z. Some z) o) cut
+after_more x [] c u t so_far cut = grind arith
 after_more x (d ∷ cuts) c u t so_far cut = after_first x cuts c u t (λ z is. after_more (again x z) cuts c u t is cut) (cut_at x d) so_far
 
 pub ops_more : (x : PowerOn) (cuts : List ℕ) (c : ℕ) (u t : Content) → after x cuts ≡ Some u → cut_at (again x u) c ≡ Some t

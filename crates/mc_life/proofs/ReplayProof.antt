@@ -42,16 +42,10 @@ last_line (c ∷ line) lacks = ap (λ b. if b then [] ∷ lines_of line else ont
 -- ---- one line more
 
 either : (b : Bool) (A B C D : Type 0) → (A → C) → (B → D) → Either b A B → Either b C D
-either true A B C D f h x = f x
-either false A B C D f h x = h x
+either it one other third fourth f h x = grind arith
 
 first_one : (b : Bool) (A B : Type 0) → b ≡ true → A → Either b A B
-first_one true A B is a = a
-first_one false A B is a = absurd cc
-
-other_one : (b : Bool) (A B : Type 0) → b ≡ false → B → Either b A B
-other_one false A B is a = a
-other_one true A B is a = absurd cc
+first_one it one other is a = grind arith
 
 skip_more : (files : List Named) (number : ℕ) (d : Standing) (lines : List (List ℕ)) (line : List ℕ) (count : ℕ) (e : Standing) (text : List ℕ) → is_skipped line ≡ true
     → Replays files number d lines count e text → Replays files number d (lines ++ line ∷ []) count e text
@@ -63,12 +57,7 @@ skip_more files number d (l ∷ lines) line count e text skipped replayed =
 replay_more : (files : List Named) (number at : ℕ) (d : Standing) (lines : List (List ℕ)) (line : List ℕ) (count : ℕ) (e k : Standing) (o : Option Report) (text : List ℕ) → is_skipped line ≡ false
     → at ≡ number + count → Happens files line e k o → Replays files number d lines count e text
     → Replays files number d (lines ++ line ∷ []) (count + 1) k (text ++ line_text at line o k)
-replay_more files number at d [] line count e k o text skipped here happens replayed =
-    let from : Happens files line d k o = subst (λ x. Happens files line x k o) replayed.0 happens in
-    let same : at ≡ number = omega (arith, here, replayed.1) in
-    let all : text ++ line_text at line o k ≡ line_text number line o k ++ [] =
-    ap (λ (z : List ℕ). z ++ line_text at line o k) replayed.2 ∙ ap (λ n. line_text n line o k) same ∙ sym (append-nil (line_text number line o k)) in
-    other_one (is_skipped line) _ _ skipped (k, o, [], 0, from, (refl, refl, refl), ap (λ n. n + 1) replayed.1, all)
+replay_more files number at d [] line count e k o text skipped here happens replayed = grind (arith, append-nil)
 replay_more files number at d (l ∷ lines) line count e k o text skipped here happens replayed =
     either (is_skipped l) _ _ _ _ (replay_more files number at d lines line count e k o text skipped here happens)
     (λ t. (
@@ -83,10 +72,7 @@ replay_more files number at d (l ∷ lines) line count e k o text skipped here h
     )) replayed
 
 kept_out : (old now later : Option (List ℕ)) (text : List ℕ) → Appends old now text → Keeps now later → Appends old later text
-kept_out None now later text out keeps = tt
-kept_out (Some a) None later text out keeps = absurd out
-kept_out (Some a) (Some b) None text out keeps = absurd keeps
-kept_out (Some a) (Some b) (Some c) text out keeps = keeps ∙ out
+kept_out it now later text out keeps = grind arith
 
 -- ---- how far a script was replayed
 
@@ -182,28 +168,10 @@ module _ (files : List Named) (start : Started) (script : List ℕ) (old : Optio
 
     pub breaks : (later : Option (List ℕ)) (e : Standing) (o : Option Report) → Happens files words d e o → AppendsPrefix now later (line_text number words o e)
         → BreaksOff files start script old later
-    breaks later e o happens prefix = record {
-      count = at.count;
-      left = d;
-      text = at.text;
-      here = words;
-      beyond = lines_left after;
-      replayed = record { new = at.new; is_new = at.is_new; before = at.before; are = are_now; replayed = at.replayed };
-      mid = now;
-      out = at.out;
-      next = e;
-      outcome = o;
-      happens = happens;
-      prefix = subst (λ n. AppendsPrefix now later (line_text n words o e)) at.number_is prefix;
-    }
+    breaks later e o happens prefix = grind arith
 
   pub ends : (now : Option (List ℕ)) (number line : ℕ) (d : Standing) → IsAt files start script old now None number line d → IsReplayed files start script old now d
-  ends now number line d at = record {
-    count = at.count;
-    text = at.text;
-    replayed = record { new = at.new; is_new = at.is_new; before = at.before; are = at.are; replayed = at.replayed };
-    out = at.out;
-  }
+  ends now number line d at = grind arith
 
 -- A line that is not replayed.
 pub fails : (files : List Named) (start : Started) (script : List ℕ) (old now later : Option (List ℕ)) (text : List ℕ) (number line : ℕ) (d : Standing)
@@ -237,8 +205,7 @@ life_first d k e events ops goes life = record {
 }
 
 life_by : (b : Bool) (A B : Type 0) (d e : Standing) → (A → IsLife d e) → (B → IsLife d e) → Either b A B → IsLife d e
-life_by true A B d e f h x = f x
-life_by false A B d e f h x = h x
+life_by it one other d e f h x = grind arith
 
 replay_lives : (files : List Named) (number : ℕ) (d : Standing) (lines : List (List ℕ)) (count : ℕ) (e : Standing) (text : List ℕ) → Replays files number d lines count e text → IsLife d e
 replay_lives files number d [] count e text replayed = subst (λ x. IsLife d x) (sym replayed.0) (record { events = []; lives = λ rested. (rested, refl) })

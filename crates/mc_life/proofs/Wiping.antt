@@ -1,5 +1,5 @@
 -- The secondary, erased sector by sector from its end.
-use Rattle.std.specs.Prelude.{◌≡◌, ℕ, zero, suc, ◌+◌, ◌-◌, ◌*◌, ◌≤◌, List, [], ◌∷◌, ◌++◌, length, take, drop, replicate, Some, None, Result, Ok, Err, OnOk, IfErr, Bool, true, refl, if◌then◌else◌, ◌%◌}
+use Rattle.std.specs.Prelude.{◌≡◌, ℕ, zero, suc, ◌+◌, ◌-◌, ◌*◌, ◌≤◌, List, [], ◌∷◌, ◌++◌, length, take, drop, replicate, Some, None, Result, Err, OnOk, IfErr, Bool, true, refl, if◌then◌else◌, ◌%◌}
 use Rattle.std.proofs.Common.{append-nil, drop_of_length-le, arith, sym, ap, subst, ◌∙◌}
 use Rattle.std.proofs.lemmas.List.{length-take-le, length-drop, replicate-append-replicate, length-append, length-replicate, take_all}
 use Rattle.std.proofs.Math.Seq.{drop-append_seam}
@@ -34,9 +34,7 @@ put_beyond : (xs new : List ℕ) (at : ℕ) → at ≤ length xs → drop at (pu
 put_beyond xs new at le = subst (λ n. drop n (put xs at new) ≡ new ++ drop (at + length new) xs) (length-take-le at xs le) (drop-append_seam (take at xs) (new ++ drop (at + length new) xs))
 
 put_long : (xs new : List ℕ) (at : ℕ) → at + length new ≤ length xs → length (put xs at new) ≡ length xs
-put_long xs new at le =
-    let both : length (put xs at new) ≡ length (take at xs) + length (new ++ drop (at + length new) xs) = length-append (take at xs) (new ++ drop (at + length new) xs) in
-    omega (arith, le, both, length-append new (drop (at + length new) xs), length-take-le at xs (omega (arith, le)), length-drop (at + length new) xs)
+put_long xs new at le = grind (arith, length-append, length-take-le, length-drop)
 
 pub wiping_begins : (f : Seen) → length f.content.secondary ≡ size_of f.geometry Secondary → IsWiping f f f.geometry.secondary
 wiping_begins f long =
@@ -91,13 +89,7 @@ module _ (old f h : Seen) (left now : ℕ) (next : suc left ≡ now) (so_far : I
   }
 
 pub wiping_ends : (old f : Seen) (left : ℕ) → left ≤ 0 → IsWiping old f left → f.content ≡ with_bytes old.content Secondary (wiped old.geometry)
-wiping_ends old f left none_left so_far =
-    let is : IsWiping old f 0 = subst (IsWiping old f) (omega (arith, none_left)) so_far in
-    let none : 0 * old.geometry.sector ≡ 0 = omega arith in
-    let rest : size_of old.geometry Secondary - 0 * old.geometry.sector ≡ size_of old.geometry Secondary = omega arith in
-    let blank : f.content.secondary ≡ wiped old.geometry =
-    sym (ap (λ n. drop n f.content.secondary) none) ∙ is.blank ∙ ap (λ n. replicate n 255) rest in
-    ap (λ (z : List ℕ). record { primary = z; secondary = f.content.secondary }) is.primary ∙ ap (λ (z : List ℕ). record { primary = old.content.primary; secondary = z }) blank
+wiping_ends old f left none_left so_far = grind arith
 
 -- ---- bytes are written over blank ones
 
@@ -134,8 +126,7 @@ erase_fails f h slot sector errors.NotErased does = absurd (cc (undefined (Erase
 
 -- One more erase is counted.
 pub counted : (w v all : Counts) (left now : ℕ) → suc left ≡ now → v ≡ worn w (Erase Secondary left ∷ []) → worn w (wipes now) ≡ all → worn v (wipes left) ≡ all
-counted w v all left now next is whole =
-    ap (λ (x : Counts). worn x (wipes left)) is ∙ worn_both w (Erase Secondary left ∷ []) (wipes left) ∙ ap (λ n. worn w (wipes n)) next ∙ whole
+counted w v all left now next is whole = grind (arith, worn_both)
 
 -- A write of the whole slot is not refused.
 module _ (old f h : Seen) (bytes : List ℕ) (content : f.content ≡ with_bytes old.content Secondary (wiped old.geometry)) (layout : f.geometry ≡ old.geometry)
@@ -145,14 +136,10 @@ module _ (old f h : Seen) (bytes : List ℕ) (content : f.content ≡ with_bytes
       ∙ ap (apply old.geometry (Program Secondary 0 bytes)) content ∙ written old.geometry old.content bytes long
 
   pub rewritten : (result : Result (Unit {0}) FlashError) → Does (Program Secondary 0 bytes) f result h → OnOk result (h.content ≡ with_bytes old.content Secondary bytes)
-  rewritten (Ok v) does = let e = (did (Program Secondary 0 bytes) f h does.0).applied in let same : Some h.content ≡ Some (with_bytes old.content Secondary bytes) = sym e ∙ defined in cc
-  rewritten (Err e) does = tt
+  rewritten it does = grind (arith, did, defined)
 
   pub rewrite_fails : (result : Result (Unit {0}) FlashError) → Does (Program Secondary 0 bytes) f result h → IfErr result (λ e. e ≡ errors.Memory)
-  rewrite_fails (Ok v) does = tt
-  rewrite_fails (Err errors.Memory) does = refl
-  rewrite_fails (Err errors.NotErased) does = let no = undefined (Program Secondary 0 bytes) f does.0 in let not_so : None ≡ Some
-      (with_bytes old.content Secondary bytes) = sym no ∙ defined in absurd cc
+  rewrite_fails it does = grind (arith, undefined, defined)
 
 pub all_counted : (w all : Counts) (left : ℕ) → left ≤ 0 → w ≡ worn w [] → worn w (wipes left) ≡ all → w ≡ all
 all_counted w all left none_left idle whole = idle ∙ ap (λ n. worn w (wipes n)) (sym zero_left) ∙ whole

@@ -1,7 +1,6 @@
 -- Counts after operations, one after another.
 use Rattle.std.specs.Prelude.{◌≡◌, ℕ, zero, suc, ◌+◌, ◌-◌, ◌^◌, ◌<◌, ◌≤◌, min, List, [], ◌∷◌, ◌++◌, length, refl}
 use Rattle.std.proofs.Common.{arith, ap, ◌∙◌, get_or}
-use Rattle.std.proofs.lemmas.Bool.Decides.{nat_tests}
 use Rattle.std.proofs.Math.ListN.{set}
 use Rattle.mc_boot.specs.Life.{all_erases}
 use Rattle.mc_flash.specs.declared.op.Op.{Op}
@@ -24,9 +23,7 @@ from_both slot sector (n ∷ ns) ops more =
 
 -- Operations in two parts.
 pub worn_both : (w : Counts) (ops more : List Op) → worn (worn w ops) more ≡ worn w (ops ++ more)
-worn_both w ops more =
-    ap (λ (z : List ℕ). record { primary = z; secondary = worn_from Secondary 0 (worn_from Secondary 0 w.secondary ops) more }) (from_both Primary 0 w.primary ops more)
-    ∙ ap (λ (z : List ℕ). record { primary = worn_from Primary 0 w.primary (ops ++ more); secondary = z }) (from_both Secondary 0 w.secondary ops more)
+worn_both w ops more = grind (arith, from_both)
 
 abbrev Idle : Slot → List Op → Type 0
 Idle slot ops = (sector : ℕ) → all_erases slot sector ops ≡ 0
@@ -41,19 +38,15 @@ from_idle slot sector (n ∷ ns) ops small idle =
 
 -- Operations that erase nothing.
 pub worn_idle : (w : Counts) (ops : List Op) → AreCounts w.primary → AreCounts w.secondary → Idle Primary ops → Idle Secondary ops → w ≡ worn w ops
-worn_idle w ops small below idle rests =
-    ap (λ (z : List ℕ). record { primary = z; secondary = w.secondary }) (from_idle Primary 0 w.primary ops small (λ i _. idle i))
-    ∙ ap (λ (z : List ℕ). record { primary = worn_from Primary 0 w.primary ops; secondary = z }) (from_idle Secondary 0 w.secondary ops below (λ i _. rests i))
+worn_idle w ops small below idle rests = grind (arith, from_idle)
 
 -- ---- one erase
 
 erase_here : (slot : Slot) (sector at : ℕ) → at ≡ sector → all_erases slot sector (Erase slot at ∷ []) ≡ 1
-erase_here Primary sector at is = grind (arith, nat_tests)
-erase_here Secondary sector at is = grind (arith, nat_tests)
+erase_here it sector at is = grind arith
 
 erase_there : (slot : Slot) (sector at : ℕ) → (at ≡ sector → ⊥) → all_erases slot sector (Erase slot at ∷ []) ≡ 0
-erase_there Primary sector at other = grind (arith, nat_tests)
-erase_there Secondary sector at other = grind (arith, nat_tests)
+erase_there it sector at other = grind arith
 
 pub erased_once : (slot : Slot) (sector at k x had : ℕ) (ns : List ℕ) → at ≡ sector + k → k < length ns → get_or ns k had ≡ had → x ≡ min (had + 1) (2 ^ 64 - 1) → AreCounts (set ns k x)
     → set ns k x ≡ worn_from slot sector ns (Erase slot at ∷ [])
@@ -86,14 +79,8 @@ erased_none slot at ns beyond small = go 0 ns (omega (arith, beyond)) small
 -- One slot was noted, and of the other nothing is erased.
 pub noted_primary : (w : Counts) (ns : List ℕ) (sector : ℕ) → AreCounts w.secondary → ns ≡ worn_from Primary 0 w.primary (Erase Primary sector ∷ [])
     → record { primary = ns; secondary = w.secondary } ≡ worn w (Erase Primary sector ∷ [])
-noted_primary w ns sector small is =
-    ap (λ (z : List ℕ). record { primary = z; secondary = w.secondary }) is
-    ∙ ap (λ (z : List ℕ). record { primary = worn_from Primary 0 w.primary (Erase Primary sector ∷ []); secondary = z })
-    (from_idle Secondary 0 w.secondary (Erase Primary sector ∷ []) small (λ i _. refl))
+noted_primary w ns sector small is = grind (arith, from_idle)
 
 pub noted_secondary : (w : Counts) (ns : List ℕ) (sector : ℕ) → AreCounts w.primary → ns ≡ worn_from Secondary 0 w.secondary (Erase Secondary sector ∷ [])
     → record { primary = w.primary; secondary = ns } ≡ worn w (Erase Secondary sector ∷ [])
-noted_secondary w ns sector small is =
-    ap (λ (z : List ℕ). record { primary = w.primary; secondary = z }) is
-    ∙ ap (λ (z : List ℕ). record { primary = z; secondary = worn_from Secondary 0 w.secondary (Erase Secondary sector ∷ []) })
-    (from_idle Primary 0 w.primary (Erase Secondary sector ∷ []) small (λ i _. refl))
+noted_secondary w ns sector small is = grind (arith, from_idle)

@@ -1,6 +1,6 @@
 -- The sector that was erased most often, and all erases.
-use Rattle.std.specs.Prelude.{◌≡◌, ℕ, suc, ◌+◌, ◌-◌, ◌^◌, ◌<◌, ◌≤◌, ◌⊎◌, min, List, length, drop, get_or}
-use Rattle.std.proofs.Common.{arith, ap, drop-cons, drop_of_length-le, inl, inr, ◌∙◌}
+use Rattle.std.specs.Prelude.{◌≡◌, ℕ, ◌+◌, ◌-◌, ◌^◌, ◌<◌, ◌≤◌, ◌⊎◌, min, List, length, drop, get_or}
+use Rattle.std.proofs.Common.{arith, drop-cons, drop_of_length-le, inl, inr}
 use Rattle.std.proofs.lemmas.Bool.Decides.{eqb_tells}
 use Rattle.mc_life.specs.Device.{IsMost, sum_of, total}
 
@@ -19,12 +19,7 @@ below k i lt = elim (eqb_tells k i) [ inl same ↦ inr same.1 | inr other ↦ in
 
 module _ (counts : List ℕ) (i sector count here : ℕ) (so : IsSoFar counts i sector count) (is : get_or counts i 0 ≡ here) where
   pub stays : here ≤ count → IsSoFar counts (i + 1) sector count
-  stays le = record {
-    value = so.value;
-    greatest = λ k lt. elim (below k i lt) [ inl a ↦ so.greatest k a | inr e ↦ (let at : get_or counts k 0 ≡ here = ap (λ n. get_or counts n 0) e ∙ is in omega (arith, at, le)) ];
-    first = so.first;
-    inside = omega (arith, so.inside);
-  }
+  stays le = grind arith
 
 pub is_most : (counts : List ℕ) (i sector count : ℕ) → length counts ≤ i → IsSoFar counts i sector count → IsMost counts (record { count = count; sector = sector })
 is_most counts i sector count end so = record { value = so.value; greatest = λ k lt. so.greatest k (omega (arith, lt, end)); first = so.first }
@@ -33,13 +28,7 @@ is_most counts i sector count end so = record { value = so.value; greatest = λ 
 
 pub sum_next : (counts : List ℕ) (i all here more : ℕ) → i < length counts → get_or counts i 0 ≡ here → more ≡ min (all + here) (2 ^ 64 - 1)
     → min (2 ^ 64 - 1) (all + sum_of (drop i counts)) ≡ total counts → min (2 ^ 64 - 1) (more + sum_of (drop (i + 1) counts)) ≡ total counts
-sum_next counts i all here more inside is next so_far =
-    let plus : i + 1 ≡ suc i = omega arith in
-    let tail : sum_of (drop i counts) ≡ get_or counts i 0 + sum_of (drop (suc i) counts) = ap (λ (z : List ℕ). sum_of z) (drop-cons counts i 0 inside) in
-    let rest : sum_of (drop (i + 1) counts) ≡ sum_of (drop (suc i) counts) = ap (λ (n : ℕ). sum_of (drop n counts)) plus in
-    omega (arith, tail, rest, is, next, so_far)
+sum_next counts i all here more inside is next so_far = grind (arith, drop-cons)
 
 pub sum_ends : (counts : List ℕ) (i all : ℕ) → length counts ≤ i → all < 2 ^ 64 → min (2 ^ 64 - 1) (all + sum_of (drop i counts)) ≡ total counts → all ≡ total counts
-sum_ends counts i all end small so_far =
-    let none : sum_of (drop i counts) ≡ 0 = ap (λ (z : List ℕ). sum_of z) (drop_of_length-le counts end) in
-    omega (arith, none, small, so_far)
+sum_ends counts i all end small so_far = grind (arith, drop_of_length-le)

@@ -1,11 +1,11 @@
 -- How the text of a cursor is taken apart.
-use Rattle.std.specs.Prelude.{◌≡◌, ◌≢◌, IsSomeAnd, ℕ, suc, ◌*◌, ◌/◌, ◌%◌, ◌<◌, ◌≤◌, List, [], ◌∷◌, ◌++◌, length, slice_index, Option, Some, None, decimal, Result, Ok, Err, MatchResult, true, false, IfSome, is_err, refl}
+use Rattle.std.specs.Prelude.{◌≡◌, ◌≢◌, IsSomeAnd, ℕ, suc, ◌/◌, ◌%◌, ◌<◌, ◌≤◌, List, [], ◌∷◌, ◌++◌, length, slice_index, Option, Some, None, decimal, Result, Ok, Err, MatchResult, true, false, IfSome, is_err, refl}
 use Rattle.std.specs.Str.Parse.{ParsesUnsigned}
-use Rattle.std.proofs.Common.{append_assoc, arith, sym, ap, ◌∙◌}
+use Rattle.std.proofs.Common.{append_assoc, arith, sym, ◌∙◌}
 use Rattle.std.proofs.lemmas.Fmt.{parse-decimal}
-use Rattle.hex.specs.Hex.{IsBytes, decode_sized, encode_lower, encode_with, hex_digit_value, lower_digits}
+use Rattle.hex.specs.Hex.{IsBytes, decode_sized, encode_lower, encode_with, lower_digits}
 use Rattle.hex.specs.declared.error.FromHexError.{FromHexError}
-use Rattle.hex.proofs.HexLemmas.{IsDigits-lower_digits, length-encode_with, decode_of-encode_lower, decode_sized-twice}
+use Rattle.hex.proofs.HexLemmas.{length-encode_with, decode_of-encode_lower, decode_sized-twice}
 use Rattle.mc_trailer.specs.declared.tables.Rules.{Rules}
 use Rattle.mc_start.specs.Cursor.{IsStartField, IsCursor}
 use Rattle.mc_start.specs.declared.cursor.Cursor.{Cursor}
@@ -16,9 +16,7 @@ use Rattle.std.proofs.lemmas.Str.Pattern.{IsSplitOnceResult}
 
 -- Two fields of a text, and what follows them.
 pub two_fields : (text a rest b rest' a' b' : List ℕ) → text ≡ a ++ 58 ∷ rest → rest ≡ b ++ 58 ∷ rest' → a ≡ a' → b ≡ b' → text ≡ (a' ++ (58 ∷ (b' ++ (58 ∷ [])))) ++ rest'
-two_fields text a rest b rest' a' b' first second is is' =
-    let fields : a ++ (58 ∷ (b ++ (58 ∷ rest'))) ≡ a' ++ (58 ∷ (b' ++ (58 ∷ rest'))) = ap (λ x. x ++ (58 ∷ (b ++ (58 ∷ rest')))) is ∙ ap (λ x. a' ++ (58 ∷ (x ++ (58 ∷ rest')))) is' in
-    first ∙ ap (λ r. a ++ (58 ∷ r)) second ∙ fields ∙ simp append_assoc
+two_fields text a rest b rest' a' b' first second is is' = grind (arith, append_assoc)
 
 -- ---- numbers and digits
 
@@ -34,10 +32,7 @@ in_room d (Err e) out r is found = absurd cc
 
 pub digest_reads : (d text out : List ℕ) (r : Result (Unit {0}) FromHexError) (room : ℕ) → length d ≡ 32 → IsBytes d → text ≡ encode_lower d → room ≡ 32
     → MatchResult (decode_sized text room) (λ bytes. (r ≡ Ok tt) × (out ≡ bytes)) (λ e. r ≡ Err e) → (r ≡ Ok tt) × (out ≡ d)
-digest_reads d text out r room len bytes is n found =
-    let twice : length (encode_lower d) ≡ 2 * room = omega (arith, length-encode_with lower_digits d, len, n) in
-    let whole : decode_sized text room ≡ Ok d = ap (λ (t : List ℕ). decode_sized t room) is ∙ decode_sized-twice (encode_lower d) room twice ∙ decode_of-encode_lower d bytes in
-    in_room d (decode_sized text room) out r whole found
+digest_reads d text out r room len bytes is n found = grind (arith, length-encode_with, decode_sized-twice, decode_of-encode_lower, in_room)
 
 pub apart : true ≡ false → ⊥
 apart e = cc
@@ -52,10 +47,7 @@ colon_no_digit : (c : ℕ) → c ≡ 58 → 48 ≤ c → c ≤ 57 → ⊥
 colon_no_digit c is low high = omega (arith, is, high)
 
 no_digit : (d x : ℕ) → d < 16 → slice_index lower_digits d ≡ x → x ≢ 58
-no_digit d x lt is colon =
-    let some : hex_digit_value 58 ≡ Some d = ap hex_digit_value (sym (is ∙ colon)) ∙ IsDigits-lower_digits d lt in
-    let none : hex_digit_value 58 ≡ None = refl in
-    absurd cc
+no_digit d x lt is colon = grind arith
 
 pub lacks_hex : (d : List ℕ) → IsBytes d → Lacks 58 (encode_lower d)
 unfolding encode_with
@@ -100,6 +92,4 @@ start_of c ok = record { digest = ok.digest; bytes = ok.bytes; at_most = ok.at_m
 pub cursor_is : {E : Type 0} (given : Rules) (start : StartField) (schedule : List ℕ) (c : Cursor) → given ≡ c.rules → start ≡ field_of c.digest c.bound
     → ◌≡◌ {A = Result (List ℕ) E} (Ok schedule) (Ok c.schedule)
     → record { rules = given; digest = start.digest; bound = start.bound; schedule = schedule } ≡ c
-cursor_is given start schedule c a b d =
-    let all : record { rules = given; digest = start.digest; bound = start.bound; schedule = schedule } ≡ record { rules = c.rules; digest = c.digest; bound = c.bound; schedule = c.schedule } = cc in
-    all
+cursor_is given start schedule c a b d = grind arith

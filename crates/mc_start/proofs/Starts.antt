@@ -38,9 +38,7 @@ read_size b v fine is = ap (λ (w : Image). length (image_text w)) is ∙ size_r
 
 pub read_prefix : (b : List ℕ) (v : Image) (size : ℕ) → image_fault b ≡ None → v ≡ image_in b → Begins b v → size ≡ length (image_text v)
     → (length (take size b) ≡ image_size b) × (take size b ≡ take (image_size b) b)
-read_prefix b v size fine is begins size_is =
-    let same : size ≡ image_size b = size_is ∙ read_size b v fine is in
-    (length-take-le size b (omega (arith, size_is, prefix_within b v begins)) ∙ same, ap (λ n. take n b) same)
+read_prefix b v size fine is begins size_is = grind (arith, read_size, length-take-le, prefix_within)
 
 -- The identities of two valid images, the named one first.
 pub names : (kind : Kind) (a b : List ℕ) (x y : Identity) → id_of a ≡ Some x → id_of b ≡ Some y → Some (in_order kind x y) ≡ named_ids kind a b

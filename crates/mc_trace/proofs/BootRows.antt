@@ -9,9 +9,9 @@ use Rattle.std.proofs.lemmas.List.{get_or-take, length-append, length-take, leng
 use Rattle.std.proofs.lemmas.Option.{get_or_from_slice_get, slice_get-get_or}
 use Rattle.mc_boot.specs.Boot.{HasCome, Progress}
 use Rattle.mc_boot.specs.Outcome.{Report, first_then, happening, ops_of, outcome_of, shown}
-use Rattle.mc_boot.specs.Plan.{PowerOn, again, plan, power_on}
+use Rattle.mc_boot.specs.Plan.{PowerOn, again, plan}
 use Rattle.mc_boot.specs.facts.Run.{come_count, come_ops, come_prefix}
-use Rattle.mc_explore.specs.inner.OneRound.{at_cut, boots}
+use Rattle.mc_explore.specs.inner.OneRound.{at_cut}
 use Rattle.mc_flash.specs.Flash.{Content, apply}
 use Rattle.mc_flash.specs.Geometry.{Geometry}
 use Rattle.mc_flash.specs.declared.op.Op.{Op}
@@ -22,8 +22,7 @@ use Rattle.mc_trace.specs.declared.picture_rows.Look.{Look}
 use Rattle.mc_trace.specs.declared.picture_rows.Row.{Row}
 use Rattle.mc_trace.specs.inner.Rows.{IsRowHere, IsRowOf, boot_at, length_to, model_of, row_shown}
 use Rattle.mc_explore.specs.declared.one_round.OneRound.{OneRound}
-use Rattle.mc_explore.specs.facts.Children.{IsAtChild, here_too}
-use Rattle.mc_tree.specs.Tree.{landed}
+use Rattle.mc_explore.specs.facts.Children.{IsAtChild}
 use Rattle.mc_walk.specs.Walks.{Walked}
 
 -- The first of the operations that happen is the first of all.
@@ -42,9 +41,7 @@ module _ (x : PowerOn) (p : Progress) (t : Content) (come : HasCome x p t) (more
 
   to_come_is : (b : Bool) → p.faulted ≡ b → (op : Op) → slice_get p.to_come 0 ≡ Some op → slice_get (drop p.count (plan x).list) 0 ≡ Some op
   to_come_is true is op first = let none : p.to_come ≡ [] = come.rest ∙ ap (λ (b : Bool). if b then [] else drop p.count (plan x).list) is in absurd (one_to_come none)
-  to_come_is false is op first =
-      let left : p.to_come ≡ drop p.count (plan x).list = come.rest ∙ ap (λ (b : Bool). if b then [] else drop p.count (plan x).list) is in
-      subst (λ (l : List Op). slice_get l 0 ≡ Some op) left first
+  to_come_is false is op first = grind arith
 
   -- It is that of the number to which the boot has come.
   pub op_here : (op : Op) → slice_get p.to_come 0 ≡ Some op → slice_get (ops_of x) p.count ≡ Some op
@@ -146,6 +143,4 @@ module _ (old at : Walked OneRound) (number : ℕ) (here : IsAtChild model_of ol
   number_is = same.1
 
   pub row_is : IsRowOf (boot_at old old.path) cut at.seen.content row
-  row_is =
-      let P : OneRound → Content → Type 0 = λ t s. IsRowOf (power_on t.rules t.layout (landed (boots t.rules t.layout) s is.0)) cut at.seen.content row in
-      subst (λ (l : List ℕ). IsRowOf (boot_at old l) cut at.seen.content row) same.0 (here_too model_of old at here.same P is.2)
+  row_is = grind (arith, same)

@@ -1,5 +1,5 @@
 -- A boot that is traced from power-on up to a cut, or to its end.
-use Rattle.std.specs.Prelude.{◌≡◌, ℕ, zero, suc, ◌-◌, ◌<◌, ◌≤◌, ◌⊎◌, Bool, true, false, if◌then◌else◌, List, [], ◌∷◌, ◌++◌, length, take, drop, slice_get, Option, Some, None, refl}
+use Rattle.std.specs.Prelude.{◌≡◌, ℕ, zero, suc, ◌<◌, ◌≤◌, ◌⊎◌, Bool, true, false, List, [], ◌∷◌, ◌++◌, length, take, drop, slice_get, Option, Some, None, refl}
 use Rattle.std.specs.Io.KnownBytes.{Appends}
 use Rattle.std.proofs.Common.{arith, inl, inr, sym, ap, subst, append-nil, ◌∙◌}
 use Rattle.mc_flash.specs.Flash.{Content}
@@ -29,10 +29,7 @@ module _ (span : Span) (from : PowerOn) where
   -- What is written up to a cut, and in all.
   module _ (p : Progress) (is : p ≡ begun from.rules (plan from)) where
     pub written_cut : (cut : ℕ) → operation_lines span from.geometry p.count (up_to (Some cut) p.count p.to_come) from.content ≡ operation_lines span from.geometry 0 (take cut list) from.content
-    written_cut cut =
-        let e : cut - 0 ≡ cut = omega arith in
-        ap (λ (x : Progress). operation_lines span from.geometry x.count (up_to (Some cut) x.count x.to_come) from.content) is
-        ∙ ap (λ n. operation_lines span from.geometry 0 (take n list) from.content) e
+    written_cut cut = grind arith
 
     pub written_all : operation_lines span from.geometry p.count (up_to None p.count p.to_come) from.content ≡ operation_lines span from.geometry 0 list from.content
     written_all = ap (λ (x : Progress). operation_lines span from.geometry x.count (up_to None x.count x.to_come) from.content) is
@@ -53,8 +50,7 @@ module _ (span : Span) (from : PowerOn) where
             absurd (omega (arith, ap (λ (os : List Op). length os) all, come_count from q t come, at_most, inside))
 
     pub next_there : slice_get q.to_come 0 ≡ slice_get list cut
-    next_there =
-        ap (λ (os : List Op). slice_get os 0) (come.rest ∙ ap (λ b. if b then [] else drop q.count list) goes_on) ∙ get_dropped list q.count ∙ ap (slice_get list) there
+    next_there = grind (arith, goes_on, get_dropped, there)
 
     pub left_there : t ≡ at_cut from cut
     unfolding at_cut

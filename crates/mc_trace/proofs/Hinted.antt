@@ -1,6 +1,6 @@
 -- Hints at sectors, and where status entries begin.
 use Rattle.std.specs.Prelude.{◌≡◌, ℕ, zero, suc, ◌+◌, ◌-◌, ◌<◌, false, List, [], ◌∷◌, ◌++◌, length, drop, get_or}
-use Rattle.std.proofs.Common.{arith, sym, ap, ◌∙◌, append_assoc}
+use Rattle.std.proofs.Common.{arith, ap, append_assoc}
 use Rattle.std.proofs.lemmas.Bool.Decides.{nat_tests}
 use Rattle.mc_flash.specs.Geometry.{Geometry}
 use Rattle.mc_flash.specs.declared.op.Slot.{Slot}
@@ -28,7 +28,4 @@ module _ (g : Geometry) (slot : Slot) (bytes : List ℕ) (i n : ℕ) where
   -- A text that grew by the hint at a sector.
   pub grew : (text now whole : List ℕ) → i < n → now ≡ text ++ magic_text g slot bytes i → text ++ magics_text g slot bytes i (n - i) ≡ whole
       → now ++ magics_text g slot bytes (i + 1) (n - (i + 1)) ≡ whole
-  grew text now whole below one written =
-      let rest : List ℕ = magics_text g slot bytes (i + 1) (n - (i + 1)) in
-      let regroup : (text ++ magic_text g slot bytes i) ++ rest ≡ text ++ (magic_text g slot bytes i ++ rest) = simp append_assoc in
-      ap (λ xs. xs ++ rest) one ∙ regroup ∙ ap (λ xs. text ++ xs) (sym (more below)) ∙ written
+  grew text now whole below one written = grind (arith, append_assoc, more)

@@ -5,8 +5,7 @@ use Rattle.std.proofs.lemmas.Bool.Decides.{nat_tests}
 use Rattle.std.proofs.lemmas.List.{length-drop, length-map}
 use Rattle.std.proofs.lemmas.List.FromFn.{length-map-range_with_len}
 use Rattle.std.proofs.lemmas.List.Sums.{sum_by-cons}
-use Rattle.std.specs.Int.{div_ceil}
-use Rattle.std.specs.Prelude.{Bool, List, None, Option, Some, [], cond, drop, false, if◌then◌else◌, is_none, length, map, nat_lt, not, refl, sum_by, true, ℕ, ◌*◌, ◌++◌, ◌+◌, ◌==◌, ◌||◌, ◌∷◌, ◌≡◌, ◌≤◌}
+use Rattle.std.specs.Prelude.{Bool, List, None, Option, Some, [], cond, drop, false, if◌then◌else◌, is_none, length, map, nat_lt, refl, sum_by, true, ℕ, ◌*◌, ◌++◌, ◌+◌, ◌==◌, ◌||◌, ◌∷◌, ◌≡◌, ◌≤◌}
 use Rattle.mc_boot.specs.Outcome.{first_then, happening, ops_of}
 use Rattle.mc_boot.specs.Plan.{Plan, PowerOn, confirms, first_left, from_transfer, images_of, new_list, new_plan, new_swap, nothing, plan, plan_with}
 use Rattle.mc_boot.specs.Plan.{resumed_from, resumed_list, resumed_plan, resumed_swap, trailer_erase, trailer_erases, transfers}
@@ -42,10 +41,7 @@ module _ (P : List Op → Type 0) (c : Grain) (g : Geometry) (idle : P [])
   fitting n most false e = grind (arith, nat_tests)
 
   of_new_swap : (images : Images) (kind : SwapType) → P (new_swap c g images kind).list
-  of_new_swap images kind =
-      let n = div_ceil images.size g.sector in
-      chosen (not images.valid || nat_lt (greatest_sectors g) n) (nothing kinds.Fail) (record { kind = kind; sectors = n; list = new_list c (in_pieces c g) kind images.size n }) (λ _. idle)
-      (λ e. new kind images.size n (fitting n (greatest_sectors g) (not images.valid) e))
+  of_new_swap images kind = grind arith
 
   of_new_plan : (images : Images) (kind : SwapType) → P (new_plan c g images kind).list
   of_new_plan images kinds.None = idle
@@ -65,14 +61,7 @@ module _ (P : List Op → Type 0) (c : Grain) (g : Geometry) (idle : P [])
       from (Some first) fits = resumed n first (is_none highest) (confirms kind flag) fits
 
   of_resumed_plan : (t : Trailer) (highest : Option ℕ) → P (resumed_plan c g t highest).list
-  of_resumed_plan t highest =
-      let n = div_ceil t.swap_size g.sector in
-      let of : SwapType → Plan = λ kind. resumed_swap c g t.image_ok highest kind n in
-      chosen (t.swap_info == 2) (of kinds.Test) (if t.swap_info == 3 then of kinds.Perm else if t.swap_info == 4 then of kinds.Revert else nothing kinds.None)
-      (λ _. of_resumed t.image_ok highest kinds.Test n)
-      (λ _. chosen (t.swap_info == 3) (of kinds.Perm) (if t.swap_info == 4 then of kinds.Revert else nothing kinds.None)
-      (λ _. of_resumed t.image_ok highest kinds.Perm n)
-      (λ _. chosen (t.swap_info == 4) (of kinds.Revert) (nothing kinds.None) (λ _. of_resumed t.image_ok highest kinds.Revert n) (λ _. idle)))
+  of_resumed_plan t highest = grind (arith, of_resumed)
 
 of_plan : (P : List Op → Type 0) (x : PowerOn) → P []
     → ((kind : SwapType) (size n : ℕ) → n ≤ greatest_sectors x.geometry → P (new_list x.rules.grain (in_pieces x.rules.grain x.geometry) kind size n))

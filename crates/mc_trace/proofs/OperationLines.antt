@@ -78,8 +78,7 @@ module _ (span : Span) (old new : Seen) (p q : Progress) (op : Op) (until : Opti
 
 -- None is left where there is no next one, and where the number is reached.
 pub over : (span : Span) (until : Option ℕ) (f : Seen) (p : Progress) → p.to_come ≡ [] → left_to_write span until f p ≡ []
-over span until f p end =
-    ap (λ os. operation_lines span f.geometry p.count (up_to until p.count os) f.content) end ∙ ap (λ os. operation_lines span f.geometry p.count os f.content) (none_left until p.count)
+over span until f p end = grind (arith, none_left)
 
 pub reached : (span : Span) (until : Option ℕ) (f : Seen) (p : Progress) → IfSome until (λ n. p.count ≡ n) → is_some until ≡ true → left_to_write span until f p ≡ []
 reached span None f p at some = absurd cc
@@ -145,8 +144,4 @@ writes_err (Err _) before after text t = t
 -- What a write that failed leaves counted.
 pub counted_up_to : (o q : Progress) (old new : Seen) (result : Result (Unit {0}) TraceError) (e : TraceError) → result ≡ Err e → e ≡ traces.Write → CountsOn o q old new
     → new.usage.limits ≡ old.usage.limits → CountsUpTo (left_of old.geometry o) old result new
-counted_up_to o q old new result e is write counts limits = record {
-  counts = record { entries = omega (arith, counts.entries); saved = omega (arith, counts.saved) };
-  limits = limits;
-  cause = λ wanted. absurd (let w = rw is at wanted in cc);
-}
+counted_up_to o q old new result e is write counts limits = grind arith

@@ -1,5 +1,5 @@
 -- The lines of a patch, and the digits of bytes, one after another.
-use Rattle.std.specs.Prelude.{◌≡◌, ℕ, suc, ◌+◌, ◌-◌, ◌/◌, ◌%◌, ◌<◌, Bool, true, false, if◌then◌else◌, List, [], ◌∷◌, ◌++◌, bytes_eq, length, take, drop, slice_index, refl}
+use Rattle.std.specs.Prelude.{◌≡◌, ℕ, ◌+◌, ◌-◌, ◌/◌, ◌%◌, ◌<◌, Bool, true, false, if◌then◌else◌, List, [], ◌∷◌, ◌++◌, bytes_eq, length, take, drop, slice_index, refl}
 use Rattle.hex.specs.Hex.{encode_lower, encode_with, lower_digits}
 use Rattle.std.proofs.Common.{arith, sym, ap, ◌∙◌, append-nil, take-append-drop}
 use Rattle.std.proofs.lemmas.List.{nil_from_length}
@@ -48,10 +48,7 @@ module _ (g : Geometry) (start : Content) (slot : Slot) (bytes : List ℕ) where
   left i = lines_text (changes_from g start slot bytes i (sectors_of g slot - i))
 
   pub left_next : (i : ℕ) → i < sectors_of g slot → left i ≡ lines_text (change_of g start slot i (sector_of g bytes i)) ++ left (i + 1)
-  left_next i more =
-      let e : sectors_of g slot - i ≡ suc (sectors_of g slot - (i + 1)) = omega (arith, more) in
-      ap (λ n. lines_text (changes_from g start slot bytes i n)) e
-      ∙ flat_map-append line_text (change_of g start slot i (sector_of g bytes i)) (changes_from g start slot bytes (i + 1) (sectors_of g slot - (i + 1)))
+  left_next i more = grind (arith, flat_map-append)
 
 -- The lines of both slots.
 pub two_slots : (g : Geometry) (start s : Content) → patch_text g start s ≡ lines_text (slot_changes g start Primary s.primary) ++ lines_text (slot_changes g start Secondary s.secondary)

@@ -33,16 +33,12 @@ sector_short g slot i = omega (arith, length-take (i * g.sector + g.sector - i *
 
 -- A sector that begins with bytes of its length holds them.
 like_here : (g : Geometry) (slot bytes : List ℕ) (i : ℕ) → length bytes ≡ g.sector → bytes_eq (take (length bytes) (sector_of g slot i)) bytes ≡ true → sector_of g slot i ≡ bytes
-like_here g slot bytes i len same =
-    sym (take_all (length bytes) (sector_of g slot i) (omega (arith, len, sector_short g slot i)))
-    ∙ (bytes_eq-Decides (take (length bytes) (sector_of g slot i)) bytes).0 same
+like_here g slot bytes i len same = grind (arith, take_all, sector_short, bytes_eq-Decides)
 
 like_first : (g : Geometry) (slot bytes : List ℕ) (i j : ℕ) (rest : Option ℕ) (t : Bool) → length bytes ≡ g.sector
     → bytes_eq (take (length bytes) (sector_of g slot i)) bytes ≡ t → (rest ≡ Some j → sector_of g slot j ≡ bytes)
     → (if t then Some i else rest) ≡ Some j → sector_of g slot j ≡ bytes
-like_first g slot bytes i j rest true len same later e =
-    let here : j ≡ i = cc in
-    ap (sector_of g slot) here ∙ like_here g slot bytes i len same
+like_first g slot bytes i j rest true len same later e = grind (arith, like_here)
 like_first g slot bytes i j rest false len other later e = later e
 
 like_is : (g : Geometry) (slot bytes : List ℕ) (i n j : ℕ) → length bytes ≡ g.sector → first_like g slot bytes i n ≡ Some j → sector_of g slot j ≡ bytes
@@ -59,8 +55,7 @@ held_is g start bytes None None len first second = refl
 chosen_is : (g : Geometry) (start : Content) (bytes : List ℕ) (t : Bool) → length bytes ≡ g.sector → is_blank bytes ≡ t
     → source_bytes g start (if t then Blank else held_or (origin_of g start bytes) bytes) ≡ bytes
 chosen_is g start bytes true len blank = ap (λ (n : ℕ). replicate n 255) (sym len) ∙ blank_is bytes blank
-chosen_is g start bytes false len blank =
-    held_is g start bytes (first_like g start.primary bytes 0 g.primary) (first_like g start.secondary bytes 0 g.secondary) len refl refl
+chosen_is g start bytes false len blank = grind (arith, held_is)
 
 source_is : (g : Geometry) (start : Content) (bytes : List ℕ) → length bytes ≡ g.sector → source_bytes g start (source_of g start bytes) ≡ bytes
 unfolding source_of
@@ -84,9 +79,7 @@ module _ (was now : List ℕ) (at size : ℕ) where
   joined = sym (append_assoc (take at now) (between at (at + size) now) (drop (at + size) was)) ∙ ap (λ l. l ++ drop (at + size) was) (sym longer)
 
   piece_long : at + size ≤ length now → length (between at (at + size) now) ≡ size
-  piece_long inside =
-      let long : length (between at (at + size) now) ≡ at + size - at = length-between now at (at + size) inside in
-      omega (arith, long)
+  piece_long inside = grind (arith, length-between)
 
   -- A piece that is as it was.
   same_mixed : between at (at + size) now ≡ between at (at + size) was → mixed was now at ≡ mixed was now (at + size)
@@ -152,14 +145,10 @@ module _ (g : Geometry) (start : Content) where
 
     module _ (sized : length was ≡ size_of g slot) where
       all_now : mixed was now (size_of g slot) ≡ now
-      all_now =
-          ap₂ (λ (x y : List ℕ). x ++ y) (take_all (size_of g slot) now (omega (arith, len))) (drop_all (size_of g slot) was (omega (arith, sized)))
-          ∙ append-nil now
+      all_now = grind (arith, take_all, drop_all, append-nil)
 
       rest_changed : (k i : ℕ) → i + k ≡ sectors_of g slot → changed g start (changes_from g start slot now i k) (begun i) ≡ with_bytes s slot now
-      rest_changed zero i count =
-          let e : i ≡ sectors_of g slot = omega (arith, count) in
-          ap begun e ∙ ap (with_bytes s slot) all_now
+      rest_changed zero i count = grind (arith, all_now)
       rest_changed (suc k) i count =
           changed-append (change_of g start slot i (sector_of g now i)) (changes_from g start slot now (i + 1) k) (begun i)
           ∙ ap (changed g start (changes_from g start slot now (i + 1) k)) (sector_changed i (omega (arith, count)))
@@ -181,7 +170,4 @@ patch_makes g start s was now =
 -- Contents as large as the slots.
 pub sized : (g l : Geometry) (s : Content) (primary secondary : List ℕ) → l ≡ g → primary ≡ s.primary → length primary ≡ size_of l Primary
     → secondary ≡ s.secondary → length secondary ≡ size_of l Secondary → IsSized g s
-sized g l s primary secondary same is_primary long_primary is_secondary long_secondary = record {
-  primary = ap length (sym is_primary) ∙ long_primary ∙ ap (λ x. size_of x Primary) same;
-  secondary = ap length (sym is_secondary) ∙ long_secondary ∙ ap (λ x. size_of x Secondary) same;
-}
+sized g l s primary secondary same is_primary long_primary is_secondary long_secondary = grind arith

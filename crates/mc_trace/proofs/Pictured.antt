@@ -1,7 +1,6 @@
 -- What a picture says of one sector, and of those after it.
-use Rattle.std.specs.Prelude.{◌≡◌, ℕ, suc, ◌+◌, ◌-◌, ◌<◌, ◌≤◌, Bool, true, false, if◌then◌else◌, List, [], ◌∷◌, ◌++◌, length, take, codes, bytes_eq, Some}
-use Rattle.std.proofs.Common.{arith, sym, ap, ◌∙◌, append_assoc}
-use Rattle.std.proofs.lemmas.List.{append-nil}
+use Rattle.std.specs.Prelude.{◌≡◌, ℕ, suc, ◌+◌, ◌-◌, ◌<◌, ◌≤◌, true, false, List, [], ◌∷◌, ◌++◌, length, take, codes, bytes_eq, Some}
+use Rattle.std.proofs.Common.{arith, ap, append_assoc}
 use Rattle.mc_flash.specs.Flash.{Content}
 use Rattle.mc_flash.specs.Geometry.{Geometry}
 use Rattle.mc_flash.specs.declared.op.Slot.{Slot}
@@ -16,35 +15,21 @@ none_more i n over = omega (arith, over)
 
 module _ (g : Geometry) (slot bytes : List ℕ) (i n : ℕ) where
   pub like_here : i < n → bytes_eq (take (length bytes) (sector_of g slot i)) bytes ≡ true → first_like g slot bytes i (n - i) ≡ Some i
-  like_here below same =
-      ap (first_like g slot bytes i) (one_more i n below)
-      ∙ ap (λ (b : Bool). if b then Some i else first_like g slot bytes (i + 1) (n - (i + 1))) same
+  like_here below same = grind arith
 
   pub like_next : i < n → bytes_eq (take (length bytes) (sector_of g slot i)) bytes ≡ false → first_like g slot bytes i (n - i) ≡ first_like g slot bytes (i + 1) (n - (i + 1))
-  like_next below other =
-      ap (first_like g slot bytes i) (one_more i n below)
-      ∙ ap (λ (b : Bool). if b then Some i else first_like g slot bytes (i + 1) (n - (i + 1))) other
+  like_next below other = grind arith
 
 module _ (kind : Words) (g : Geometry) (start : Content) (at : Slot) (slot : List ℕ) (i n : ℕ) where
   pub words_next : i < n → sector_words kind g start at slot i (n - i) ≡ codes " " ++ (sector_word kind g start at i (sector_of g slot i) ++ sector_words kind g start at slot (i + 1) (n - (i + 1)))
   words_next below = ap (sector_words kind g start at slot i) (one_more i n below)
 
-  pub words_none : n ≤ i → sector_words kind g start at slot i (n - i) ≡ []
-  words_none over = ap (sector_words kind g start at slot i) (none_more i n over)
-
   -- A text that grew by a word.
   pub grew : (text now whole : List ℕ) → i < n → now ≡ text ++ (codes " " ++ sector_word kind g start at i (sector_of g slot i)) → text ++ sector_words kind g start at slot i (n - i) ≡ whole
       → now ++ sector_words kind g start at slot (i + 1) (n - (i + 1)) ≡ whole
-  grew text now whole below one written =
-      let word = sector_word kind g start at i (sector_of g slot i) in
-      let rest : List ℕ = sector_words kind g start at slot (i + 1) (n - (i + 1)) in
-      let regroup : (text ++ (codes " " ++ word)) ++ rest ≡ text ++ (codes " " ++ (word ++ rest)) = simp append_assoc in
-      ap (λ xs. xs ++ rest) one ∙ regroup ∙ ap (λ xs. text ++ xs) (sym (words_next below)) ∙ written
+  grew text now whole below one written = grind (arith, append_assoc, words_next)
 
   -- And its end.
   pub ended : (before named text now : List ℕ) (whole : List ℕ) → n ≤ i → text ++ sector_words kind g start at slot i (n - i) ≡ (before ++ named) ++ whole → now ≡ text ++ 10 ∷ []
       → now ≡ before ++ (named ++ (whole ++ 10 ∷ []))
-  ended before named text now whole over written last =
-      let all : text ≡ (before ++ named) ++ whole = sym (append-nil text) ∙ sym (ap (λ xs. text ++ xs) (words_none over)) ∙ written in
-      let regroup : ((before ++ named) ++ whole) ++ 10 ∷ [] ≡ before ++ (named ++ (whole ++ 10 ∷ [])) = simp append_assoc in
-      last ∙ ap (λ xs. xs ++ 10 ∷ []) all ∙ regroup
+  ended before named text now whole over written last = grind (arith, append_assoc)

@@ -7,7 +7,7 @@ use Rattle.mc_flash.specs.Geometry.{Geometry}
 use Rattle.mc_flash.specs.declared.op.Slot.{Slot}
 use Rattle.mc_output.specs.Text.{AppendsPrefix}
 use Rattle.mc_output.specs.facts.Prefixes.{IsOut, out_all, out_begun, out_more, out_prefix}
-use Rattle.mc_trace.specs.Picture.{all_runs, cell_at, cells_from, joins, next_run, one_more, run_before, run_of, run_text, runs_text, slot_cells}
+use Rattle.mc_trace.specs.Picture.{cell_at, cells_from, joins, next_run, one_more, run_before, run_of, run_text, runs_text, slot_cells}
 use Rattle.mc_trace.specs.declared.cells.Cell.{Cell}
 use Rattle.mc_trace.specs.declared.runs.Run.{Run}
 use Rattle.mc_trace.specs.inner.Boots.{WritesText}
@@ -24,9 +24,7 @@ module _ (merges : Bool) (g : Geometry) (start : Content) (slot : Slot) (bytes :
   left run i = runs_text merges run (cells_from g start slot bytes target i (n - i))
 
   pub begun : 0 < n → (before : Option (List ℕ)) → IsOut before before whole (left (run_of (cell_at g start slot bytes target 0)) 1)
-  begun some before =
-      let e : n ≡ suc (n - 1) = omega (arith, some) in
-      subst (IsOut before before whole) (ap (λ k. all_runs merges (cells_from g start slot bytes target 0 k)) e) (out_begun before whole)
+  begun some before = grind (arith, out_begun)
 
   module _ (i : ℕ) (before mid new : Option (List ℕ)) (run : Run) (out : IsOut before mid whole (left run i)) where
     step : i < n → left run i ≡ run_before merges run (cell_at g start slot bytes target i) ++ left (next_run merges run (cell_at g start slot bytes target i)) (i + 1)

@@ -1,8 +1,7 @@
 -- How often the swap for a test erases each sector.
 use Rattle.std.proofs.Math.Nat.{zero-mul}
 use Rattle.std.proofs.Common.{ap, arith, inl, inr, sym, ◌∙◌}
-use Rattle.std.proofs.lemmas.Bool.{cases_eq, cases_order}
-use Rattle.std.proofs.lemmas.Bool.Decides.{nat_tests}
+use Rattle.std.proofs.lemmas.Bool.{cases_eq}
 use Rattle.std.specs.List.{range_with_len}
 use Rattle.std.specs.Prelude.{List, [], filter, flat_map, fold, if◌then◌else◌, map, max, min, refl, suc, zero, ℕ, ◌*◌, ◌+◌, ◌++◌, ◌-◌, ◌<◌, ◌==◌, ◌∷◌, ◌≡◌, ◌≤◌}
 use Rattle.mc_boot.specs.Life.{all_erases, erases}
@@ -42,11 +41,7 @@ abbrev pub once : ℕ → ℕ → ℕ → ℕ
 once k a n = min 1 (k + 1 - a) - min 1 (k + 1 - (a + n))
 
 hit : (i k : ℕ) → (if i == k then 1 else 0) ≡ once k i 1
-hit i k = elim (cases_order i k) [
-  | inl same ↦ grind (arith, nat_tests)
-  | inr (inl beyond) ↦ grind (arith, nat_tests)
-  | inr (inr prefix) ↦ grind (arith, nat_tests)
-]
+hit i k = grind arith
 
 also_last : (k a n x y : ℕ) → x ≡ once k (a + n) 1 → y ≡ once k a n → x + y ≡ once k a (suc n)
 also_last k a n x y now rest = omega (arith, now, rest)

@@ -8,8 +8,8 @@ use Rattle.std.proofs.lemmas.List.FromFn.{length-map-range_with_len, length-rang
 use Rattle.std.proofs.lemmas.List.Sums.{length-filter, sum_by-append}
 use Rattle.std.specs.List.{between, range_with_len}
 use Rattle.std.specs.Prelude.{Bool, List, [], drop, false, filter, flat_map, if◌then◌else◌, length, map, max, refl, suc, true, zero, ℕ, ◌*◌, ◌++◌, ◌+◌, ◌-◌, ◌/◌, ◌<◌, ◌∷◌, ◌≡◌, ◌≤◌}
-use Rattle.mc_boot.specs.Plan.{brought_in, closing, copy_of, copy_done_write, entry_of, from_transfer, image_ok_write, info_write, is_test, marking, moved_up, new_list}
-use Rattle.mc_boot.specs.Plan.{opening_writes, piece, preparation_writes, resumed_list, steps, swap_list, taken_out, trailer_erase, trailer_erases, transfers, write}
+use Rattle.mc_boot.specs.Plan.{brought_in, closing, copy_of, copy_done_write, entry_of, from_transfer, image_ok_write, info_write, is_test, marking, new_list}
+use Rattle.mc_boot.specs.Plan.{opening_writes, piece, preparation_writes, resumed_list, steps, swap_list, taken_out, trailer_erases, transfers, write}
 use Rattle.mc_boot.specs.declared.transfer.Transfer.{Transfer}
 use Rattle.mc_flash.specs.Flash.{sectors_of}
 use Rattle.mc_flash.specs.Geometry.{Geometry, IsLayout, greatest_sectors, in_pieces, trailer_sectors}
@@ -59,14 +59,7 @@ doubled l [] = refl
 doubled l (x ∷ xs) = omega (arith, doubled l xs)
 
 pub transfer_count : (l : Geometry) (n : ℕ) → length (transfers l n) ≡ 3 * n
-transfer_count l n =
-    omega (
-      arith,
-      length-append (map (moved_up n) (range_with_len 0 n)) (flat_map (λ i. brought_in l i ∷ taken_out l i ∷ []) (range_with_len 0 n)),
-      length-map-range_with_len (moved_up n) 0 n,
-      doubled l (range_with_len 0 n),
-      length-range_with_len 0 n,
-    )
+transfer_count l n = grind (arith, length-append, length-map-range_with_len, doubled, length-range_with_len)
 
 module _ (l : Geometry) where
   none : Asks l [] [] 0
@@ -230,26 +223,10 @@ pub erase_count : (g : Geometry) (list es : List Op) (u : ℕ) → Asks g list e
 erase_count g list es u p = sym (length-filter is_erase list) ∙ ap (λ (xs : List Op). length xs) p.erasing_are
 
 swap_erasing_count : (g : Geometry) (n : ℕ) → length (swap_erasing g n) ≡ 2 * trailer_sectors g + 3 * n
-swap_erasing_count g n =
-    let all : List Op = map target (transfers g n) in
-    omega (
-      arith,
-      length-append (trailer_erases g Primary) (trailer_erases g Secondary ++ all),
-      length-append (trailer_erases g Secondary) all,
-      length-map-range_with_len (trailer_erase g Primary) 0 (trailer_sectors g),
-      length-map-range_with_len (trailer_erase g Secondary) 0 (trailer_sectors g),
-      length-map (transfers g n) target,
-      transfer_count g n,
-    )
+swap_erasing_count g n = grind (arith, length-append, length-map-range_with_len, length-map, transfer_count)
 
 pub begun_erasing_count : (g : Geometry) (kind : SwapType) (n : ℕ) → length (begun_erasing g kind n) ≡ trailers_of kind * trailer_sectors g + 3 * n
-begun_erasing_count g kinds.Revert n =
-    omega (
-      arith,
-      swap_erasing_count g n,
-      length-append (trailer_erases g Secondary) (swap_erasing g n),
-      length-map-range_with_len (trailer_erase g Secondary) 0 (trailer_sectors g),
-    )
+begun_erasing_count g kinds.Revert n = grind (arith, swap_erasing_count, length-append, length-map-range_with_len)
 begun_erasing_count g kind n = swap_erasing_count g n
 
 -- They fit their type.

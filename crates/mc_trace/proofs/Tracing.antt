@@ -14,7 +14,7 @@ use Rattle.mc_output.specs.facts.Prefixes.{IsOut, out_all, out_begun, out_prefix
 use Rattle.mc_output.specs.Text.{AppendsPrefix}
 use Rattle.mc_boot.specs.Outcome.{Report, outcome_of, outcome_text, after, at, ops_of}
 use Rattle.mc_boot.specs.Plan.{PowerOn, again, power_on, powered}
-use Rattle.mc_trace.specs.Trace.{RefusesTrace, boots_text, cut_text, last_text, outcome_lines, trace_text}
+use Rattle.mc_trace.specs.Trace.{RefusesTrace, boots_text, cut_text, last_text, trace_text}
 use Rattle.mc_trace.specs.declared.trace.Span.{Span}
 use Rattle.mc_trace.specs.declared.error.TraceError.{TraceError}
 use Rattle.mc_trace.specs.declared.error.TraceError.TheVariants as errors
@@ -102,10 +102,7 @@ module _ (span : Span) (start : PowerOn) (cuts : List ℕ) (before : Option (Lis
     at_end = let e : Some f.content ≡ Some u = sym (ap (after (again start f.content)) none_left) ∙ are.path ∙ occurs in cc
 
     lines_are : boots_text span start.rules start.geometry boot f.content (drop written cuts) ≡ last_text span start.rules start.geometry boot f.content ++ (outcome_text outcome ++ [])
-    lines_are =
-        ap (boots_text span start.rules start.geometry boot f.content) none_left
-        ∙ ap (λ o. last_text span start.rules start.geometry boot f.content ++ outcome_lines o) (ap (λ s. outcome_of (again start s)) at_end ∙ outcome_is)
-        ∙ ap (λ z. last_text span start.rules start.geometry boot f.content ++ z) (sym (append-nil (outcome_text outcome)))
+    lines_are = grind (arith, none_left, append-nil)
 
     out_end : IsOut before now (trace_text span start cuts) (last_text span start.rules start.geometry boot f.content ++ (outcome_text outcome ++ []))
     out_end = subst (IsOut before now (trace_text span start cuts)) lines_are are.out
@@ -140,9 +137,7 @@ module _ (r rules : Rules) (g layout : Geometry) (same_rules : rules ≡ r) (sam
   most_here = ap (λ (x : Rules). most_of x layout) same_rules ∙ ap (most_of r) same_layout
 
   pub one_counted : (new : Counts) → LeaveRoom new no_counts (plus old (most_of rules layout)) → LeaveRoom new no_counts (times (n + 1) (most_of r g))
-  one_counted new more =
-      let here : LeaveRoom new no_counts (plus old (most_of r g)) = subst (λ (c : Counts). LeaveRoom new no_counts (plus old c)) most_here more in
-      record { entries = omega (arith, counts.entries, here.entries); saved = omega (arith, counts.saved, here.saved) }
+  one_counted new more = grind arith
 
   pub room_left : (boots : ℕ) (limits : Limits) → n + 1 ≤ boots → IsWithin (limits_for r.grain g boots) limits → LeaveRoom old (most_of rules layout) (room_of limits)
   room_left boots limits at_most within =

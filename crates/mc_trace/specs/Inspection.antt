@@ -1,5 +1,5 @@
 -- A flash explained: this project's own text (docs/FORMAT.md, "Inspection").
-use Rattle.std.specs.Prelude.{List, None, Option, Some, [], codes, if◌then◌else◌, slice_get, ℕ, ◌++◌}
+use Rattle.std.specs.Prelude.{List, None, Option, Some, codes, if◌then◌else◌, slice_get, ℕ, ◌++◌}
 use Rattle.mc_boot.specs.Outcome.{identity_text, outcome_of}
 use Rattle.mc_boot.specs.Plan.{PowerOn, plan}
 use Rattle.mc_flash.specs.Flash.{Content, slot_text}

@@ -31,9 +31,7 @@ same_begun old new s = cc (s.flash_tree, s.origin)
 
 -- The paths of a walk are those of the start.
 is_path : (x : PowerOn) (w : Walked OneRound) (bound : ℕ) (l : List ℕ) → begun_of w ≡ x → w.bound ≡ bound → IsMember (boots x.rules x.geometry) x.content bound l → IsPath (model_of w.flash_tree) w l
-is_path x w bound l is few m =
-    let P : PowerOn → Type 0 = λ y. IsMember (boots y.rules y.geometry) y.content w.bound l in
-    subst P (sym is) (subst (λ n. IsMember (boots x.rules x.geometry) x.content n l) (sym few) m)
+is_path x w bound l is few m = grind arith
 
 module _ (x : PowerOn) (schedule cuts : List ℕ) (fresh one two : Walked OneRound) (summary : Summary) (start_is : begun_of fresh ≡ x) (bound_is : fresh.bound ≡ length cuts + 1)
     (cuts_are : cuts ≡ schedule) (few : length schedule < 16) (occurs : CanOccur x schedule) (b : Begins (model_of fresh.flash_tree) fresh summary one) where
@@ -64,18 +62,7 @@ module _ (x : PowerOn) (schedule cuts : List ℕ) (fresh one two : Walked OneRou
     bound_then = (went r f).2.bound ∙ one_bound
 
     pub arrived : IsAt x schedule two
-    arrived =
-        let there : begun_of two ≡ x = same_begun one two (went r f).2 ∙ one_start in
-        record {
-          stands = (went r f).3;
-          path_is = path_is;
-          begun_is = there;
-          few = omega (arith, bound_then, few, ap (λ (l : List ℕ). length l) cuts_are);
-          listed = is_path x two (length cuts + 1) two.path there bound_then (
-            omega (arith, ap (λ (l : List ℕ). length l) path_is, ap (λ (l : List ℕ). length l) cuts_are),
-            subst (Allowed (boots x.rules x.geometry) x.content) (sym path_is) (occurs_allowed x schedule occurs),
-          );
-        }
+    arrived = grind (arith, path_is)
 
     pub stands_below : length two.path < two.bound
     stands_below = omega (arith, ap (λ (l : List ℕ). length l) path_is, ap (λ (l : List ℕ). length l) cuts_are, bound_then)
@@ -113,7 +100,4 @@ module _ (w : Walked OneRound) (f : Frame Boot Summary) (step : IsLastStep (mode
 -- As many children as the boot from there makes operations.
 pub width_at : (x : PowerOn) (path : List ℕ) (w : Walked OneRound) → IsAt x path w → (u : Content) → after x path ≡ Some u
     → (boots w.flash_tree.rules w.flash_tree.layout).width (landed (boots w.flash_tree.rules w.flash_tree.layout) (origin_of w.seen) w.path) ≡ length (ops_of (again x u))
-width_at x path w at u is =
-    let P : PowerOn → Type 0 = λ y. (boots y.rules y.geometry).width (landed (boots y.rules y.geometry) y.content w.path) ≡ length (ops_of (again x u)) in
-    let there : u ≡ landed (boots x.rules x.geometry) x.content w.path = lands x w.path u (ap (after x) at.path_is ∙ is) in
-    subst P (sym at.begun_is) (ap (λ (s : Content). length (ops_of (again x s))) (sym there))
+width_at x path w at u is = grind (arith, lands)

@@ -6,9 +6,9 @@ use Rattle.std.proofs.lemmas.List.Elements.{All-contains}
 use Rattle.mc_boot.specs.Outcome.{after, ops_of}
 use Rattle.mc_boot.specs.Plan.{PowerOn, again}
 use Rattle.mc_explore.specs.facts.Occurring.{allowed_after, occurs_allowed}
-use Rattle.mc_explore.specs.inner.OneRound.{at_cut, boots, content_or}
+use Rattle.mc_explore.specs.inner.OneRound.{at_cut, boots}
 use Rattle.mc_flash.specs.Flash.{Content}
-use Rattle.mc_tree.specs.Tree.{Allowed, Tree, landed}
+use Rattle.mc_tree.specs.Tree.{Allowed, landed}
 use Rattle.mc_tree.specs.facts.Order.{allowed-push, landed-push}
 use Rattle.mc_vectors.specs.Cases.{AnyCuts, AreCases, AtMost, ComesBefore, HasNoCollision, IsNoLater}
 use Rattle.mc_vectors.specs.declared.case.Case.{Case}
@@ -17,13 +17,7 @@ use Rattle.mc_vectors.proofs.Orders.{no_later_on, no_later_trans, no_longer}
 
 -- The flash at one cut more.
 pub after_push : (x : PowerOn) (l : List ℕ) (u : Content) (i : ℕ) → after x l ≡ Some u → i < length (ops_of (again x u)) → after x (l ++ i ∷ []) ≡ Some (at_cut (again x u) i)
-after_push x l u i is some =
-    let t : Tree Content = boots x.rules x.geometry in
-    let allowed = occurs_allowed x l (ap is_some is) in
-    let here : u ≡ landed t x.content l = ap (content_or x.content) (sym is ∙ allowed_after x l allowed) in
-    let inside = subst (λ (s : Content). i < length (ops_of (again x s))) here some in
-    allowed_after x (l ++ i ∷ []) (allowed-push t x.content l i allowed inside)
-    ∙ ap (λ (s : Content). Some s) (landed-push t x.content l i ∙ ap (λ (s : Content). at_cut (again x s) i) (sym here))
+after_push x l u i is some = grind (arith, occurs_allowed, allowed_after, allowed-push, landed-push)
 
 module _ (x : PowerOn) (bound : ℕ) (cases : List Case) (index : ℕ) (s : IsSearch x bound cases index) (all : length cases ≤ index) where
   done_all : (c : Case) → Contains cases c → IsDone x cases bound c
@@ -101,9 +95,4 @@ module _ (x : PowerOn) (bound : ℕ) (cases : List Case) (index : ℕ) (s : IsSe
   are_cases = record { each = s.each; sorted = s.sorted; distinct = s.distinct; all = λ safe l u few is. from_root safe l u (inl few) is }
 
   pub are_all : IsWhole → AreCases x AnyCuts cases
-  are_all whole = record {
-    each = λ c inside. ((s.each c inside).0, tt);
-    sorted = s.sorted;
-    distinct = s.distinct;
-    all = λ safe l u few is. from_root safe l u (inr whole) is;
-  }
+  are_all whole = grind (arith, from_root)

@@ -1,6 +1,6 @@
 -- The sectors in which two flashes differ, one after another.
-use Rattle.std.specs.Prelude.{bytes_eq, cond, drop, false, min, not, suc, take, true, zero}
-use Rattle.std.proofs.Common.{List, [], Bool, ap, append-nil, append_assoc, arith, length, length-append, refl, subst, sym, take-add, ℕ, ◌*◌, ◌++◌, ◌+◌, ◌-◌, ◌<◌, ◌∙◌, ◌∷◌, ◌≡◌, ◌≤◌}
+use Rattle.std.specs.Prelude.{bytes_eq, cond, false, min, not, suc, take, true, zero}
+use Rattle.std.proofs.Common.{List, [], Bool, ap, append-nil, append_assoc, arith, length, length-append, refl, subst, sym, take-add, ℕ, ◌*◌, ◌++◌, ◌+◌, ◌<◌, ◌∙◌, ◌∷◌, ◌≡◌, ◌≤◌}
 use Rattle.std.proofs.Math.Path.{ap₂}
 use Rattle.std.proofs.lemmas.List.{take_all}
 use Rattle.std.proofs.lemmas.List.Elements.{filter-append}
@@ -42,8 +42,7 @@ module _ (g : Geometry) (s t : Content) where
 
     -- They stand after others.
     pub listed_more : (old now : List SectorId) → now ≡ old ++ so_far → is_other g s t at ≡ true → now ++ at ∷ [] ≡ old ++ differing_first g s t slot (n + 1)
-    listed_more old now are is =
-        ap (λ (l : List SectorId). l ++ at ∷ []) are ∙ append_assoc old so_far (at ∷ []) ∙ ap (λ (l : List SectorId). old ++ l) (sym (one_more is))
+    listed_more old now are is = grind (arith, append_assoc, one_more)
 
     -- So many are counted, and no more than that.
     module _ (count most : ℕ) (counted : count ≡ min most (length so_far)) where
@@ -68,9 +67,7 @@ module _ (g : Geometry) (s t : Content) where
   distance_both = ap (λ (l : List SectorId). length l) in_both ∙ length-append (differing_in g s t Primary) (differing_in g s t Secondary)
 
   few : (slot : Slot) → length (differing_in g s t slot) ≤ sectors_of g slot
-  few slot =
-      let all : length (slot_sectors g slot) ≡ sectors_of g slot = length-map-range_with_len {X = SectorId} (λ i. record { slot = slot; number = i }) 0 (sectors_of g slot) in
-      omega (arith, length-filter (is_other g s t) (slot_sectors g slot), count_by-le-length (is_other g s t) (slot_sectors g slot), all)
+  few slot = grind (arith, length-map-range_with_len, length-filter, count_by-le-length)
 
   pub distance_few : distance g s t ≤ g.primary + g.secondary
   distance_few = omega (arith, distance_both, few Primary, few Secondary)
@@ -86,11 +83,7 @@ module _ (g : Geometry) (s t : Content) (one : IsSized g s) (other : IsSized g t
 
   module _ (slot : Slot) where
     sector_more : (n : ℕ) (s : Content) → take ((n + 1) * g.sector) (bytes_of s slot) ≡ take (n * g.sector) (bytes_of s slot) ++ held_in g s (record { slot = slot; number = n })
-    sector_more n s =
-        let size : (n + 1) * g.sector ≡ n * g.sector + g.sector = omega arith in
-        let long : g.sector ≡ n * g.sector + g.sector - n * g.sector = omega arith in
-        ap (λ k. take k (bytes_of s slot)) size ∙ take-add (n * g.sector) g.sector (bytes_of s slot)
-        ∙ ap (λ k. take (n * g.sector) (bytes_of s slot) ++ take k (drop (n * g.sector) (bytes_of s slot))) long
+    sector_more n s = grind (arith, take-add)
 
     abbrev IsSameFirst : ℕ → Type 0
     IsSameFirst n = differing_first g s t slot n ≡ [] → take (n * g.sector) (bytes_of s slot) ≡ take (n * g.sector) (bytes_of t slot)

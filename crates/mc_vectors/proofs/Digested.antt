@@ -1,14 +1,14 @@
 -- The digests of sectors, one after another.
 use Rattle.std.specs.List.{concat, range_with_len}
 use Rattle.std.specs.Prelude.{get_or, length, map, take}
-use Rattle.std.proofs.Common.{List, [], append-nil, append_assoc, ap, arith, sym, ℕ, ◌++◌, ◌+◌, ◌*◌, ◌/◌, ◌<◌, ◌∙◌, ◌∷◌, ◌≡◌}
+use Rattle.std.proofs.Common.{List, [], append-nil, append_assoc, ap, arith, sym, ℕ, ◌++◌, ◌+◌, ◌/◌, ◌<◌, ◌∙◌, ◌∷◌, ◌≡◌}
 use Rattle.std.proofs.Math.Nat.{mul-div_cancel}
 use Rattle.std.proofs.lemmas.List.{take_more}
 use Rattle.std.proofs.lemmas.List.Folds.{concat-append}
 use Rattle.std.proofs.lemmas.List.FromFn.{get_or-map-range_with_len, length-map-range_with_len}
 use Rattle.std.proofs.lemmas.List.Concat.{concat_is}
 use Rattle.mc_flash.specs.Geometry.{Geometry}
-use Rattle.mc_vectors.specs.Cases.{flash_digest, sector_digest, sector_digests}
+use Rattle.mc_vectors.specs.Cases.{flash_digest, sector_digest}
 use Rattle.mc_vectors.specs.declared.digests.SlotDigests.{SlotDigests}
 use Rattle.mc_vectors.specs.inner.Digests.{AreDigests, IsWhole}
 use Rattle.sha2.specs.Sha256.{sha256}
@@ -23,22 +23,12 @@ concat_more m xs i x inside is =
 
 module _ (size : ℕ) (s : SlotDigests) (kept : AreDigests size s) where
   pub digest_at : (number : ℕ) (d : List ℕ) → number < length s.digests.items → get_or s.digests.items number d ≡ sector_digest size s.bytes.items number
-  digest_at number d inside =
-      let count = length-map-range_with_len (sector_digest size s.bytes.items) 0 (length s.bytes.items / size) in
-      ap (λ (l : List (List ℕ)). get_or l number d) kept.digests_are
-      ∙ get_or-map-range_with_len (sector_digest size s.bytes.items) 0 (length s.bytes.items / size) number number d
-      (omega (arith, inside, ap (λ (l : List (List ℕ)). length l) kept.digests_are, count)) (omega arith)
+  digest_at number d inside = grind (arith, length-map-range_with_len, get_or-map-range_with_len)
 
 -- Those of all sectors of these bytes were taken.
 pub made : (size : ℕ) (bytes : List ℕ) (s : SlotDigests) (number : ℕ) → 0 < size → IsWhole size bytes → s.bytes.items ≡ bytes → number ≡ length bytes / size
     → s.digests.items ≡ map (sector_digest size bytes) (range_with_len 0 number) → AreDigests size s
-made size bytes s number some whole is all are =
-    let count : length bytes / size ≡ whole.0 = ap (λ n. n / size) whole.1 ∙ mul-div_cancel whole.0 some in
-    let many : length s.digests.items ≡ number = ap (λ (l : List (List ℕ)). length l) are ∙ length-map-range_with_len (sector_digest size bytes) 0 number in
-    record {
-      length_is = ap (λ (l : List ℕ). length l) is ∙ whole.1 ∙ ap (λ n. n * size) (sym (many ∙ all ∙ count));
-      digests_are = are ∙ ap (λ n. map (sector_digest size bytes) (range_with_len 0 n)) all ∙ sym (ap (sector_digests size) is);
-    }
+made size bytes s number some whole is all are = grind (arith, mul-div_cancel, length-map-range_with_len)
 
 -- Both slots have them.
 pub both : (g : Geometry) (size : ℕ) (one two : SlotDigests) (primary secondary : List ℕ) → size ≡ g.sector → AreDigests size one → AreDigests size two → one.bytes.items ≡ primary

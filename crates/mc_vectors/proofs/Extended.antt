@@ -51,15 +51,7 @@ module _ (x : PowerOn) (bound : ℕ) (cases : List Case) (index number : ℕ) (p
 
   -- It is a flash that was met before.
   pub known : (v : Case) → Contains cases v → IsNext v.digest → IsExpanding x bound cases index (number + 1) p
-  known v inside is = record {
-    search = e.search;
-    inside = e.inside;
-    here = e.here;
-    goes_its_way = e.goes_its_way;
-    deep = e.deep;
-    below = below_next;
-    found = found_next cases e.found (λ u at. (v, inside, is u at, inr (e.below v inside)));
-  }
+  known v inside is = grind (arith, below_next, found_next)
 
   -- It is a new one.
   module _ (n : Case) (case : IsCase x n) (path : n.schedule ≡ p.schedule ++ number ∷ []) (is : IsNext n.digest) (new : (c : Case) → Contains cases c → c.digest ≢ n.digest)
@@ -105,15 +97,7 @@ module _ (x : PowerOn) (bound : ℕ) (cases : List Case) (index number : ℕ) (p
 module _ (x : PowerOn) (bound : ℕ) (cases : List Case) (index : ℕ) (p : Case) (inside : index < length cases) (here : p ≡ get_or cases index p) where
   -- A case is begun with.
   pub begin : IsSearch x bound cases index → IsBelow cases index → p.joins ≡ false → length p.schedule < bound → IsExpanding x bound cases index 0 p
-  begin s below own few = record {
-    search = s;
-    inside = inside;
-    here = here;
-    goes_its_way = own;
-    deep = few;
-    below = λ c within. below.before p c inside here within;
-    found = λ u is i lt some. absurd (omega (arith, lt));
-  }
+  begin s below own few = grind arith
 
   one_done : IsSearch x bound cases index → IsDone x cases bound p → IsSearch x bound cases (index + 1)
   one_done s done = record {
@@ -146,10 +130,7 @@ module _ (x : PowerOn) (bound : ℕ) (cases : List Case) (index : ℕ) (p : Case
 
   pub finished : (number : ℕ) → IsExpanding x bound cases index number p → ((u : Content) → after x p.schedule ≡ Some u → length (ops_of (again x u)) ≤ number)
       → IsSearch x bound cases (index + 1) × IsBelow cases (index + 1)
-  finished number e end = (
-    one_done e.search (λ few own count u is i lt some. e.found u is i (omega (arith, some, end u is)) some),
-    below_one number e.search.sorted e.below,
-  )
+  finished number e end = grind (arith, one_done, below_one)
 
 -- The case of the start is the first.
 pub first : (x : PowerOn) (bound : ℕ) (n : Case) → IsCase x n → n.schedule ≡ [] → n.joins ≡ false → IsSearch x bound (n ∷ []) 0 × IsBelow (n ∷ []) 0

@@ -68,19 +68,13 @@ module _ (x : PowerOn) (s : Content) (cases : List Case) (i : ℕ) (best : List 
   ]
 
   no_farther : (l : List ℕ) (v : Content) → far flash ≤ far v → IsNoLater best l → IsNoFarther x.geometry s best flash l v
-  no_farther l v le before = elim (cases_lt (far flash) (far v)) [
-    | inl lt ↦ inl lt
-    | inr ge ↦ inr (omega (arith, le, ge), before)
-  ]
+  no_farther l v le before = grind arith
 
   in_all : (d : Case) → Contains (take i cases) d → Contains cases d
   in_all d at = subst (λ (l : List Case). Contains l d) (take-append-drop i cases) (Contains-append_left (take i cases) (drop i cases) d at)
 
   from_more : (more : List Case) → ((d : Case) → Contains (take i cases) d → Contains more d) → (best ≡ []) ⊎ ((d : Case) × Contains more d × (d.schedule ≡ best))
-  from_more more on = elim y.near.from [
-    | inl e ↦ inl e
-    | inr d ↦ inr (d.0, on d.0 d.1, d.2)
-  ]
+  from_more more on = grind arith
 
   -- No case comes nearer than one that is not away.
   pub at_zero : least ≡ 0 → IsNearestCase x s cases best
@@ -155,17 +149,4 @@ module _ (x : PowerOn) (s : Content) (cases : List Case) (i : ℕ) (best : List 
 -- The nearest of all cases is the nearest of all flashes.
 pub nearest_of_all : (x : PowerOn) (IsAsked : List ℕ → Type 0) (s : Content) (cases : List Case) (l : List ℕ) → IsAsked [] → AreCases x IsAsked cases
     → IsNearestCase x s cases l → IsNearest x IsAsked s l
-nearest_of_all x IsAsked s cases l none all n = record {
-  flash = n.flash;
-  leaves = n.leaves;
-  asked = elim n.from [
-    | inl e ↦ subst IsAsked (sym e) none
-    | inr c ↦ subst IsAsked c.2 (all.each c.0 c.1).1
-  ];
-  nearest = λ safe m v asked is.
-      let c = all.all safe m v asked is in
-      elim (n.nearest c.0 v c.1 c.2) [
-        | inl lt ↦ inl lt
-        | inr same ↦ inr (same.0, no_later_trans l c.0.schedule m same.1 c.3)
-      ];
-}
+nearest_of_all x IsAsked s cases l none all n = grind (arith, no_later_trans)

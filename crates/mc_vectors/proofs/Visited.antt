@@ -1,13 +1,13 @@
 -- A walk that visits the flashes at the cuts of a boot.
 use Rattle.std.specs.Prelude.{Contains, Err, IfOk, Ok, Result, Some, is_some, true}
-use Rattle.std.proofs.Common.{List, [], ap, arith, length, length-append, subst, sym, true≢false, ℕ, ◌++◌, ◌+◌, ◌<◌, ◌∙◌, ◌∷◌, ◌≡◌, ◌≢◌}
+use Rattle.std.proofs.Common.{List, [], ap, arith, length, length-append, subst, sym, ℕ, ◌++◌, ◌+◌, ◌<◌, ◌∙◌, ◌∷◌, ◌≡◌, ◌≢◌}
 use Rattle.std.proofs.lemmas.List.{same_from_push}
 use Rattle.mc_boot.specs.Outcome.{after, left_by, ops_of, outcome_of, shown}
 use Rattle.mc_boot.specs.Plan.{PowerOn, again}
 use Rattle.mc_boot.specs.SharedTail.{index_in_parent}
 use Rattle.mc_explore.specs.facts.Occurring.{allowed_after, occurs_allowed}
 use Rattle.mc_explore.specs.facts.Tails.{placed_at}
-use Rattle.mc_explore.specs.inner.OneRound.{GoesOnIn, at_cut, begun_of, boots, content_or, one_round}
+use Rattle.mc_explore.specs.inner.OneRound.{GoesOnIn, at_cut, boots, content_or, one_round}
 use Rattle.mc_explore.specs.declared.one_round.OneRound.{OneRound}
 use Rattle.mc_explore.specs.declared.one_round.Summary.{Summary}
 use Rattle.mc_flash.specs.Flash.{Content}
@@ -36,15 +36,10 @@ pushed x l u z i is one =
 -- What a walk stands at.
 module _ (x : PowerOn) (path : List ℕ) (w : Walked OneRound) (at : IsAt x path w) (summary : Summary) (there : IsThere (one_round w.flash_tree.rules w.flash_tree.layout) w summary) where
   pub stands_at : after x w.path ≡ Some w.seen.content
-  stands_at =
-      let own : after (begun_of w) w.path ≡ Some w.seen.content = allowed_after (begun_of w) w.path at.listed.1 ∙ ap (λ (s : Content). Some s) (sym there.content_is) in
-      subst (λ (y : PowerOn). after y w.path ≡ Some w.seen.content) at.begun_is own
+  stands_at = grind (arith, allowed_after)
 
   pub ends_with : outcome_of (again x w.seen.content) ≡ Some (shown summary.outcome)
-  ends_with =
-      let own : outcome_of (again (begun_of w) w.seen.content) ≡ Some (shown summary.outcome) =
-      subst (λ (s : Content). outcome_of (again (begun_of w) s) ≡ Some (shown summary.outcome)) (sym there.content_is) there.summary_is.outcome_is in
-      subst (λ (y : PowerOn). outcome_of (again y w.seen.content) ≡ Some (shown summary.outcome)) at.begun_is own
+  ends_with = grind arith
 
   pub geometry_is : w.seen.geometry ≡ x.geometry
   geometry_is = there.layout_is ∙ ap (λ (y : PowerOn). y.geometry) at.begun_is
@@ -92,15 +87,7 @@ module _ (x : PowerOn) (bound : ℕ) (cases : List Case) (index number : ℕ) (p
     }
 
     pub joined_case : (n : Case) → n.schedule ≡ l → n.digest ≡ flash_digest x.geometry z → outcome_of (again x z) ≡ Some (shown n.outcome) → n.left ≡ p.left → IsCase x n
-    joined_case n at digest outcome left = record {
-      flash = z;
-      left = parent.left;
-      leaves = ap (after x) at ∙ is;
-      digest_is = digest;
-      outcome_is = outcome;
-      left_is = left_is;
-      left_digest_is = left ∙ parent.left_digest_is;
-    }
+    joined_case n at digest outcome left = grind (arith, left_is)
 
   -- The walk was there.
   pub known_here : (digest : List ℕ) → digest ≡ flash_digest x.geometry z → (v : Case) → Contains cases v → v.digest ≡ digest → IsExpanding x bound cases index (number + 1) p
@@ -115,8 +102,4 @@ module _ (x : PowerOn) (bound : ℕ) (cases : List Case) (index number : ℕ) (p
 pub own_here : {E : Type 0} (x : PowerOn) (w : Walked OneRound) (p : Case) (l digest : List ℕ) → l ≡ w.path → after x w.path ≡ Some w.seen.content → (r : Result Case E)
     → IfOk r (IsOwnCase x l digest) → IfOk r (IsCaseHere x w p digest)
 own_here x w p l digest same is (Err e) own = tt
-own_here x w p l digest same is (Ok c) own = record {
-  schedule_is = own.schedule_is ∙ same;
-  digest_is = own.digest_is;
-  is_case = λ bound cases index number e path of. (own.is_case w.seen.content (ap (after x) same ∙ is) of, λ joins. absurd (true≢false (sym joins ∙ own.joins_is)));
-}
+own_here x w p l digest same is (Ok c) own = grind arith

@@ -1,18 +1,17 @@
 -- The way along a path, and its labels.
-use Rattle.std.proofs.Common.{Bool, IfSome, List, None, Option, Some, [], ap, append-nil, append_assoc, arith, false, get_or, inl, inr, is_some, length, refl, subst, suc, sym, take, true, zero, ℕ, ◌++◌, ◌+◌, ◌<◌, ◌∙◌, ◌∷◌, ◌≡◌, ◌≤◌}
-use Rattle.std.proofs.lemmas.Bool.{cases_lt}
+use Rattle.std.proofs.Common.{Bool, IfSome, List, None, Option, Some, [], ap, append-nil, append_assoc, arith, false, get_or, is_some, length, refl, subst, suc, sym, take, true, zero, ℕ, ◌++◌, ◌+◌, ◌<◌, ◌∙◌, ◌∷◌, ◌≡◌, ◌≤◌}
 use Rattle.std.proofs.lemmas.List.{take_all, take_more}
 use Rattle.std.proofs.lemmas.Option.{slice_get_past}
 use Rattle.std.specs.List.{slice_get}
 use Rattle.mc_flash.specs.Usage.{Checkpoint, Seen, Spent}
-use Rattle.mc_flash.specs.facts.Spends.{spent_both, spent_more}
+use Rattle.mc_flash.specs.facts.Spends.{spent_both}
 use Rattle.mc_tree.specs.Tree.{After, IsMember, IsNext, labelled}
 use Rattle.mc_tree.specs.facts.Order.{childless, next_above, next_below, none_above}
 use Rattle.mc_walk.proofs.Steps.{standing}
 use Rattle.mc_walk.specs.TreeModel.{TreeModel}
 use Rattle.mc_walk.specs.Walks.{Advances, Climbs, Follows, GoesDown, IsGoing, IsSame, StopsOn, Walked, child_cost, origin_of, path_cost, root_of}
 use Rattle.mc_walk.specs.declared.frame.Frame.{Frame}
-use Rattle.mc_walk.specs.facts.Same.{path_back, same_back}
+use Rattle.mc_walk.specs.facts.Same.{path_back}
 use Rattle.mc_walk.specs.inner.Stack.{AreFrames, path_of}
 
 -- A walk from one path to another.
@@ -38,9 +37,7 @@ module _ {N A T B : Type 0} (model : B → TreeModel N A T) where
 
   pub advanced_up : (old mid new : Walked B) (down up : Bool) → length old.path ≤ old.bound → down ≡ false → GoesDown (model old.flash_tree) 0 old down mid → Climbs (model mid.flash_tree) mid up new
       → Advances (model old.flash_tree) old up new
-  advanced_up old mid new true up at_most e d c = absurd (cc)
-  advanced_up old mid new false up at_most e d c =
-      advanced_from old new up at_most d.0 (subst (λ z. Climbs (model z.flash_tree) z up new) d.1 c)
+  advanced_up old mid new it up at_most e d c = grind (arith, advanced_from)
 
   -- It has come along so many steps of a path.
   pub record IsAlong (path : List ℕ) (n : ℕ) (old now : Walked B) : Type 0 where
@@ -93,22 +90,11 @@ module _ {N A T B : Type 0} (model : B → TreeModel N A T) where
       let k : TreeModel N A T = model old.flash_tree in
       let more : old.path ++ take (n + 1) path ≡ mid.path ++ get_or path n 0 ∷ [] =
       ap (λ z. old.path ++ z) (take_more path n 0 lt) ∙ sym (append_assoc old.path (take n path) (get_or path n 0 ∷ [])) ∙ ap (λ z. z ++ get_or path n 0 ∷ []) (sym a.path_is) in
-      subst (StopsOn k path old) (sym d.1) (record {
-        steps = n;
-        inside = lt;
-        prefix = a.path_is;
-        member = a.member;
-        no_child = λ m. d.0 (path_back model mid old (mid.path ++ get_or path n 0 ∷ []) (same_back model old mid a.same) (subst (IsPath old) more m));
-        same = a.same;
-        stands = a.stands;
-      })
+      grind arith
 
   pub along_none_spent : (path : List ℕ) (n : ℕ) (old mid new : Walked B) (went : Bool) → IsAlong path n old mid → went ≡ false → GoesDown (model mid.flash_tree) (get_or path n 0) mid went new
       → Spent (path_cost (model old.flash_tree) path) old.seen new.seen
-  along_none_spent path n old mid new true a e d = absurd (cc)
-  along_none_spent path n old mid new false a e d =
-      let k : TreeModel N A T = model old.flash_tree in
-      subst (λ z. Spent (path_cost k path) old.seen z.seen) (sym d.1) (spent_more (path_cost k (take n path)) (path_cost k path) old.seen mid.seen (path_cost-take k path n) a.spent)
+  along_none_spent path n old mid new it a e d = grind (arith, path_cost-take)
 
   pub along_all : (path : List ℕ) (n : ℕ) (old now : Walked B) → IsAlong path n old now → length path ≤ n
       → Follows (model old.flash_tree) path old true now × Spent (path_cost (model old.flash_tree) path) old.seen now.seen
@@ -124,9 +110,7 @@ module _ {N A T L : Type 0} (k : TreeModel N A T) (label : N → ℕ → L) wher
   frames_label n steps [] [] i f said a is says = absurd cc
   frames_label n steps [] (x ∷ xs) i f said a is says = absurd a
   frames_label n steps (s ∷ ss) [] i f said a is says = absurd a
-  frames_label n steps (s ∷ ss) (x ∷ xs) zero f said a is says =
-      let same : x ≡ f = cc in
-      ap (λ y. Some y) (sym (says n x.number (subst (λ (y : Frame A T). k.IsOn n x.number y.at) same a.0.on_is)))
+  frames_label n steps (s ∷ ss) (x ∷ xs) zero f said a is says = grind arith
   frames_label n steps (s ∷ ss) (x ∷ xs) (suc i) f said a is says =
       frames_label (k.tree.child n x.number) (steps + 1) ss xs i f said a.1 is says
 
@@ -142,9 +126,4 @@ module _ {N A T L : Type 0} (k : TreeModel N A T) (label : N → ℕ → L) wher
         sym (frames_label (k.root (origin_of seen)) 0 st.above fs i f said st.frames is says)
 
     pub no_label : (i < length fs → false ≡ true) → None ≡ slice_get (labelled k.tree label (k.root (origin_of seen)) (path_of fs)) i
-    no_label not =
-        let at_most : length fs ≤ i = elim (cases_lt i (length fs)) [
-          | inl below ↦ let no : false ≡ true = not below in absurd cc
-          | inr le ↦ le
-        ] in
-        sym (slice_get_past (labelled k.tree label (k.root (origin_of seen)) (path_of fs)) i (omega (arith, at_most, path_label (k.root (origin_of seen)) fs)))
+    no_label not = grind (arith, slice_get_past, path_label)

@@ -1,5 +1,5 @@
 -- Frames taken off, and frames over their checkpoints.
-use Rattle.std.proofs.Common.{Err, IfOk, List, None, Ok, OnOk, Option, Result, Some, [], ap, append_assoc, arith, length, length-append, option_to_list, refl, slice_get, subst, suc, sym, take, zero, ℕ, ◌*◌, ◌++◌, ◌+◌, ◌-◌, ◌<◌, ◌^◌, ◌∙◌, ◌∷◌, ◌≡◌}
+use Rattle.std.proofs.Common.{Err, IfOk, List, Ok, OnOk, Option, Result, Some, [], ap, append_assoc, arith, length, length-append, option_to_list, refl, slice_get, subst, suc, sym, take, zero, ℕ, ◌*◌, ◌++◌, ◌+◌, ◌-◌, ◌<◌, ◌^◌, ◌∙◌, ◌∷◌, ◌≡◌}
 use Rattle.std.proofs.lemmas.List.{append-nil, get_or_at, map-append, take_at}
 use Rattle.std.proofs.lemmas.Option.{same_Some, slice_get_within}
 use Rattle.std.specs.Prelude.{slice_index_or}
@@ -43,8 +43,7 @@ module _ {N A T : Type 0} (k : TreeModel N A T) where
   -- The last frame is taken off.
   pub popped_off : (old mid new : List (Frame A T)) (f : Frame A T) (r : Option (Frame A T)) → AreOff k old mid → slice_get mid (length mid - 1) ≡ Some f
       → mid ≡ new ++ option_to_list r → IsSpent k f → AreOff k old new
-  popped_off old mid new f None off last m spent = subst (AreOff k old) (m ∙ append-nil new) off
-  popped_off old mid new f (Some x) off last m spent = one_off old mid new x off m (subst (IsSpent k) (sym (last_same mid new x f m last)) spent)
+  popped_off old mid new f it off last m spent = grind (arith, append-nil, one_off, last_same)
 
   pub last_open : (old mid new : List (Frame A T)) (f : Frame A T) → AreOff k old mid → mid ≡ new ++ f ∷ [] → IsOpen k f → IsLastOpen k f old new
   last_open old mid new f off m open_is = record { open_is = open_is; more = off.more; spent = off.spent; split = off_split old mid new off.more f off.split m }
@@ -162,11 +161,7 @@ module _ {N A T : Type 0} (k : TreeModel N A T) where
   -- What is counted and owed at the child is no more than that after one step more.
   pub frame_counts : (count : ℕ) (checkpoint : Checkpoint) (n : N) (fs : List (Frame A T)) (f : Frame A T) → count ≡ length fs + 1 → IsFrame k n (length fs) checkpoint f
       → LeaveRoom checkpoint.counts (k.owed (k.tree.child n f.number)) (most_at k count)
-  frame_counts count checkpoint n fs f e h =
-      let more = k.most_is n f.number f.at h.on_is h.some in
-      let entries : count * k.most.entries ≡ length fs * k.most.entries + k.most.entries = ap (λ z. z * k.most.entries) e ∙ one_more (length fs) k.most.entries in
-      let saved : count * k.most.saved ≡ length fs * k.most.saved + k.most.saved = ap (λ z. z * k.most.saved) e ∙ one_more (length fs) k.most.saved in
-      record { entries = omega (arith, more.entries, h.room.entries, entries); saved = omega (arith, more.saved, h.room.saved, saved) }
+  frame_counts count checkpoint n fs f e h = grind arith
 
   -- And its node has a summary.
   pub entered : (origin : Content) (seen new : Seen) (fs : List (Frame A T)) (f : Frame A T) (summary : T) → Comes k origin seen fs f → Stays (marked seen) new
@@ -190,11 +185,7 @@ module _ {N A T : Type 0} (k : TreeModel N A T) where
   -- It stands at a child.
   at_child : (origin : Content) (seen mid : Seen) (fs : List (Frame A T)) (f : Frame A T) → Comes k origin seen fs f → mid ≡ marked seen
       → IsAt k (node_of k origin fs) f.number f.at mid
-  at_child origin seen mid fs f c m = record {
-    on_is = c.frame.on_is;
-    content_is = ap (λ (z : Seen). z.content) m ∙ c.frame.content_is;
-    layout_is = ap (λ (z : Seen). z.geometry) m ∙ c.layout_is;
-  }
+  at_child origin seen mid fs f c m = grind arith
 
   pub child_here : (origin : Content) (seen mid : Seen) (fs : List (Frame A T)) (f : Frame A T) → Comes k origin seen fs f → mid ≡ marked seen → IsChild k f.at f.parent mid
   child_here origin seen mid fs f c m = (node_of k origin fs, f.number, at_child origin seen mid fs f c m, c.frame.some, c.frame.summary_is)

@@ -1,53 +1,38 @@
 -- A walk on its way to a further node.
-use Rattle.std.proofs.Common.{◌≡◌, ℕ, ◌+◌, ◌*◌, ◌<◌, ◌≤◌, true, false, List, [], ◌∷◌, ◌++◌, length, Option, Some, None, Result, Ok, Err, OnOk, IfSome, is_some, slice_index_or, slice_set, ◌-◌, length-append, refl, sym, ap, subst, ◌∙◌, arith}
-use Rattle.std.proofs.Math.Nat.{mul-le-mul_right}
+use Rattle.std.proofs.Common.{◌≡◌, ℕ, ◌+◌, ◌*◌, ◌<◌, ◌≤◌, true, false, List, [], ◌∷◌, ◌++◌, length, Option, Some, None, Result, Ok, OnOk, IfSome, is_some, slice_index_or, slice_set, ◌-◌, length-append, refl, sym, ap, subst, ◌∙◌, arith}
 use Rattle.std.proofs.lemmas.List.{map-append, length-map, get_or_at, set_at}
 use Rattle.mc_tree.specs.Tree.{Allowed}
 use Rattle.mc_tree.specs.facts.Order.{IsNextBeyond, allowed-last, none_beyond, next_beyond}
 use Rattle.mc_flash.specs.Flash.{Content}
-use Rattle.mc_flash.specs.Usage.{Counts, Limits, Checkpoint, Seen, Keeps, no_checkpoint, checkpoint_of, went_back, marked, Spent, Spends, Stays, HasRoom, LeaveRoom, plus, room_of}
-use Rattle.mc_flash.specs.facts.Spends.{ran_out_later, spent_back, spent_both, spent_marked, spent_more}
+use Rattle.mc_flash.specs.Usage.{Counts, Checkpoint, Seen, Keeps, checkpoint_of, went_back, marked, Spent, Spends, Stays, HasRoom, LeaveRoom, plus, room_of}
+use Rattle.mc_flash.specs.facts.Spends.{spent_back, spent_both, spent_more}
 use Rattle.mc_flash.specs.declared.flash.FlashError.{FlashError}
-use Rattle.mc_walk.specs.TreeModel.{TreeModel, owed_there, summary_cost, IsAt, IsNode, IsParent, HasNext, ReachesNext, CanReach, Reaches}
+use Rattle.mc_walk.specs.TreeModel.{TreeModel, owed_there, summary_cost, IsAt, IsParent, HasNext, ReachesNext, CanReach}
 use Rattle.mc_walk.specs.inner.Stack.{path_of, most_at, AreSpent, IsLastOpen, AreFrames, Stacked, node_of, Stands, Comes, CanGoOn, IsLeft, IsOneOn, IsRoomy}
 use Rattle.mc_walk.specs.Walks.{walked, origin_of, IsFresh, Begins, IsThere, IsGoing, IsLastStep, IsPath, GoesDown, Climbs}
 use Rattle.mc_walk.specs.declared.frame.Frame.{Frame}
 use Rattle.mc_walk.proofs.Stacks.{path-push, no_path, frames_allowed, frames_last, among, node-push, first_is_origin, length-stack, popped}
 
 pub ok_any : {X E P : Type 0} (r : Result X E) → P → OnOk r P
-ok_any (Ok x) p = p
-ok_any (Err e) p = tt
+ok_any it p = grind arith
 
 -- A flash that was marked first spends no more.
 pub spends_marked : {X E : Type 0} (n : ℕ) (old mid new : Seen) (r : Result X E) → mid ≡ marked old → Spends n mid r new → Spends n old r new
-spends_marked n old mid new (Ok x) m s = spent_more (0 + n) n old new (omega arith) (spent_both 0 n old mid new (subst (Spent 0 old) (sym m) (spent_marked old)) s)
-spends_marked n old mid new (Err e) m s = ran_out_later 0 old mid new (subst (Spent 0 old) (sym m) (spent_marked old)) s
+spends_marked n old mid new it m s = grind arith
 
 module _ {N A T : Type 0} (k : TreeModel N A T) where
   pub roomy_stays : (bound : ℕ) (old new : Seen) → new.usage.limits ≡ old.usage.limits → IsRoomy k bound old → IsRoomy k bound new
-  roomy_stays bound old new e r = record {
-    entries = omega (arith, r.entries, ap (λ (l : Limits). l.entries) e);
-    saved = omega (arith, r.saved, ap (λ (l : Limits). l.saved) e);
-    checkpoints = omega (arith, r.checkpoints, ap (λ (l : Limits). l.checkpoints) e);
-  }
+  roomy_stays bound old new e r = grind arith
 
   -- Room for what is counted and owed after so many steps.
   steps_room : (bound steps : ℕ) (counts more : Counts) (seen : Seen) → IsRoomy k bound seen → steps ≤ bound → LeaveRoom counts more (most_at k steps)
       → LeaveRoom counts more (room_of seen.usage.limits)
-  steps_room bound steps counts more seen r le h =
-      let entries : steps * k.most.entries ≤ bound * k.most.entries = mul-le-mul_right k.most.entries le in
-      let saved : steps * k.most.saved ≤ bound * k.most.saved = mul-le-mul_right k.most.saved le in
-      record { entries = omega (arith, entries, r.entries, h.entries); saved = omega (arith, saved, r.saved, h.saved) }
+  steps_room bound steps counts more seen r le h = grind arith
 
   -- And for what is owed at a child.
   child_room : (bound steps : ℕ) (counts left : Counts) (seen : Seen) → IsRoomy k bound seen → steps < bound → LeaveRoom counts left (most_at k steps)
       → LeaveRoom counts (plus left k.most) (room_of seen.usage.limits)
-  child_room bound steps counts left seen r le h =
-      let entries : (steps + 1) * k.most.entries ≤ bound * k.most.entries = mul-le-mul_right k.most.entries (omega (arith, le)) in
-      let saved : (steps + 1) * k.most.saved ≤ bound * k.most.saved = mul-le-mul_right k.most.saved (omega (arith, le)) in
-      let one : (steps + 1) * k.most.entries ≡ steps * k.most.entries + k.most.entries = omega arith in
-      let one_saved : (steps + 1) * k.most.saved ≡ steps * k.most.saved + k.most.saved = omega arith in
-      record { entries = omega (arith, entries, r.entries, h.entries, one); saved = omega (arith, saved, r.saved, h.saved, one_saved) }
+  child_room bound steps counts left seen r le h = grind arith
 
   pub enter_room : (bound : ℕ) (origin : Content) (seen : Seen) (fs : List (Frame A T)) (f : Frame A T) → Comes k origin seen fs f → IsRoomy k bound seen → length fs < bound
       → HasRoom (owed_there k f.at) (marked seen)
@@ -64,8 +49,7 @@ module _ {N A T : Type 0} (k : TreeModel N A T) where
 
   -- A walk that stands is where its summary says.
   pub standing : (bound : ℕ) (seen : Seen) (fs : List (Frame A T)) (summary : Option T) → is_some summary ≡ true → IfSome summary (IsGoing k bound seen fs) → (t : T) × IsGoing k bound seen fs t
-  standing bound seen fs None stands going = absurd cc
-  standing bound seen fs (Some t) stands going = (t, going)
+  standing bound seen fs it stands going = grind arith
 
   -- It stands at one of its paths.
   pub on_path : {B : Type 0} (b : B) (bound : ℕ) (seen : Seen) (fs : List (Frame A T)) (stood : Option T) (summary : T) → IsGoing k bound seen fs summary
@@ -80,27 +64,7 @@ module _ {N A T : Type 0} (k : TreeModel N A T) where
       → IsGoing k bound new fs summary × Begins k (walked b bound old fs stood) summary (walked b bound new fs (Some summary))
   begun b bound old new fs stood summary fresh stays summary_is limits =
       let none : [] ≡ fs = sym (no_path fs fresh.path) in
-      let checkpoints : new.checkpoints ≡ checkpoint_of old ∷ [] = stays.checkpoints ∙ fresh.checkpoints_are in
-      let origin : origin_of new ≡ old.content = ap (λ (ms : List Checkpoint). (slice_index_or ms 0 no_checkpoint).content) checkpoints in
-      let here : origin_of old ≡ old.content = ap (λ (ms : List Checkpoint). (slice_index_or ms 0 no_checkpoint).content) fresh.checkpoints_are in
-      let stands : Stands k (origin_of new) new [] summary = record {
-        stacked = record { first = checkpoint_of old; above = []; checkpoints_are = checkpoints; origin_is = sym origin; frames = tt };
-        content_is = stays.content ∙ sym (k.root_is old.content) ∙ ap (λ c. k.content (k.root c)) (sym origin);
-        layout_is = stays.geometry ∙ fresh.layout_is;
-        summary_is = subst (λ c. k.IsSummary (k.root c) summary) (sym origin) summary_is;
-        counts = record {
-          entries = omega (arith, (k.all_is (k.root (origin_of new))).entries, ap (λ c. c.entries) (stays.counts ∙ fresh.counts));
-          saved = omega (arith, (k.all_is (k.root (origin_of new))).saved, ap (λ c. c.saved) (stays.counts ∙ fresh.counts));
-        };
-      } in (
-        subst (λ xs. IsGoing k bound new xs summary) none (record { stands = stands; at_most = omega arith; roomy = roomy_stays bound old new limits fresh.roomy }),
-        record {
-          path = fresh.path;
-          summary_is = subst (λ c. k.IsSummary (k.root c) summary) (sym here) summary_is;
-          same = record { flash_tree = refl; bound = refl; origin = origin ∙ sym here };
-          stands = refl;
-        },
-      )
+      grind arith
 
   -- The flash is back at the last child that is not the last of its parent's.
   pub record Back (bound : ℕ) (old seen : Seen) (all fs : List (Frame A T)) (f : Frame A T) : Type 0 where
@@ -140,20 +104,7 @@ module _ {N A T : Type 0} (k : TreeModel N A T) where
   -- It goes on to the next child.
   pub went_on : (origin : Content) (seen new : Seen) (fs : List (Frame A T)) (f : Frame A T) (at : A) → Comes k origin seen fs f → f.number + 1 < k.tree.width (node_of k origin fs)
       → Keeps seen new → ReachesNext k {E = FlashError} f.at seen (Ok tt) at new → Comes k origin new fs (record { at = at; number = f.number + 1; parent = f.parent })
-  went_on origin seen new fs f at c lt keeps goes =
-      let before : IsAt k (node_of k origin fs) f.number f.at seen = record { on_is = c.frame.on_is; content_is = c.frame.content_is; layout_is = c.layout_is } in
-      let here = goes.0 (node_of k origin fs) f.number before lt in
-      record {
-        stacked = subst (λ ms. Stacked k origin ms fs) (sym keeps.checkpoints) c.stacked;
-        layout_is = here.layout_is;
-        frame = record {
-          some = lt;
-          on_is = here.on_is;
-          content_is = here.content_is;
-          summary_is = c.frame.summary_is;
-          room = record { entries = omega (arith, goes.1.entries, c.frame.room.entries); saved = omega (arith, goes.1.saved, c.frame.room.saved) };
-        };
-      }
+  went_on origin seen new fs f at c lt keeps goes = grind arith
 
   -- A child is on its way, at that cost.
   pub record Ready (bound cost : ℕ) (old mid : Seen) (fs : List (Frame A T)) (f : Frame A T) : Type 0 where
@@ -169,9 +120,7 @@ module _ {N A T : Type 0} (k : TreeModel N A T) where
     next_on = record { at = at; number = f.number + 1; parent = f.parent }
 
     pub comes_on : Comes k (origin_of seen) mid c.before next_on
-    comes_on =
-        let more : f.number + 1 < k.tree.width (node_of k (origin_of seen) c.before) = omega (arith, c.more, ap (λ (z : Frame A T). z.number) f_is) in
-        went_on (origin_of seen) seen mid c.before f at (subst (Comes k (origin_of seen) seen c.before) (sym f_is) c.comes) more keeps goes
+    comes_on = grind arith
 
     pub mark_on : length mid.checkpoints < mid.usage.limits.checkpoints
     mark_on = mark_room c.bound (origin_of seen) mid c.before next_on comes_on (roomy_stays c.bound seen mid spent.limits c.roomy) c.at_most
@@ -181,14 +130,10 @@ module _ {N A T : Type 0} (k : TreeModel N A T) where
 
   -- The last frame, and what is put in its place.
   last_now : (all before : List (Frame A T)) (f now : Frame A T) (n : ℕ) → n ≡ length all - 1 → now ≡ slice_index_or all n now → all ≡ before ++ f ∷ [] → now ≡ f
-  last_now all before f now n is value split =
-      let index_is : length before ≡ n = omega (arith, is, ap length split, length-append before (f ∷ [])) in
-      value ∙ ap (λ z. slice_index_or z n now) split ∙ get_or_at before f [] now n index_is
+  last_now all before f now n is value split = grind (arith, length-append, get_or_at)
 
   last_set : (all before : List (Frame A T)) (f next : Frame A T) (n : ℕ) → n ≡ length all - 1 → all ≡ before ++ f ∷ [] → slice_set all n next ≡ before ++ next ∷ []
-  last_set all before f next n is split =
-      let index_is : length before ≡ n = omega (arith, is, ap length split, length-append before (f ∷ [])) in
-      ap (λ z. slice_set z n next) split ∙ set_at before f [] next n index_is
+  last_set all before f next n is split = grind (arith, length-append, set_at)
 
   pub one_on : (all : List (Frame A T)) (now next : Frame A T) (n : ℕ) → n ≡ length all - 1 → now ≡ slice_index_or all n now → next.number ≡ now.number + 1
       → IsOneOn all (slice_set all n next)
@@ -203,50 +148,11 @@ module _ {N A T : Type 0} (k : TreeModel N A T) where
       → now ≡ slice_index_or all n now → now ≡ c.frame
   last_is origin seen all c now n is value = last_now all c.before c.frame now n is value c.frames_are
 
-  here_node : (old : Seen) (fs : List (Frame A T)) (summary : T) → Stands k (origin_of old) old fs summary → IsNode k (node_of k (origin_of old) fs) summary old
-  here_node old fs summary s = record { summary_is = s.summary_is; content_is = s.content_is; layout_is = s.layout_is }
-
   -- It is the summary of the node where the walk stands, which has a child of that number.
   module _ (number bound steps : ℕ) (old : Seen) (fs : List (Frame A T)) (stood : Option T) (going : IfSome stood (IsGoing k bound old fs)) (e : steps ≡ length fs) (summary : T)
       (p : IsParent k number bound steps stood (Some summary)) where
-    below_parent : IsGoing k bound old fs summary
-    below_parent = subst (λ z. IfSome z (IsGoing k bound old fs)) p.0 going
-
     pub can_reach : CanReach k number summary old
-    can_reach =
-        let go = below_parent in
-        let s = go.stands in
-        let n : N = node_of k (origin_of old) fs in
-        (n, here_node old fs summary s, p.2 n s.summary_is, steps_room bound (length fs) old.usage.counts (k.owed n) old go.roomy go.at_most s.counts)
-
-    pub ready_down : (cost : ℕ) (mid : Seen) (at : A) → Keeps old mid → Reaches k {E = FlashError} number summary old (Ok at) mid → Spent cost old mid
-        → Ready bound cost old mid fs (record { at = at; number = number; parent = summary })
-    ready_down cost mid at keeps reaches spent =
-        let go = below_parent in
-        let s = go.stands in
-        let n : N = node_of k (origin_of old) fs in
-        let below : number < k.tree.width n = p.2 n s.summary_is in
-        let (here, left) = reaches n (here_node old fs summary s) below in
-        let next : LeaveRoom mid.usage.counts (k.left at) (most_at k (length fs)) = record {
-          entries = omega (arith, left.entries, s.counts.entries);
-          saved = omega (arith, left.saved, s.counts.saved);
-        } in
-        record {
-          comes = record {
-            stacked = subst (λ ms. Stacked k (origin_of old) ms fs) (sym keeps.checkpoints) s.stacked;
-            layout_is = here.layout_is;
-            frame = record {
-              some = below;
-              on_is = here.on_is;
-              content_is = here.content_is;
-              summary_is = s.summary_is;
-              room = next;
-            };
-          };
-          at_most = omega (arith, p.1, e);
-          roomy = go.roomy;
-          spent = spent;
-        }
+    can_reach = grind arith
 
   module _ (bound cost : ℕ) (old mid : Seen) (fs : List (Frame A T)) (f : Frame A T) (r : Ready bound cost old mid fs f) where
     pub ready_here : Comes k (origin_of mid) mid fs f

@@ -1,6 +1,6 @@
 -- The first node that a tour visits.
-use Rattle.std.proofs.Common.{◌≡◌, ◌⊎◌, inl, inr, ℕ, List, [], Bool, true, false, refl, sym, subst, arith}
-use Rattle.mc_tree.specs.Tree.{Position, AtStart, IsNext, IsOver}
+use Rattle.std.proofs.Common.{◌≡◌, ◌⊎◌, ℕ, List, [], Bool, true, false, refl, sym, subst, arith}
+use Rattle.mc_tree.specs.Tree.{Position, AtStart, IsNext}
 use Rattle.mc_tree.specs.facts.Order.{next_after_last, none_after_last, none_before_root}
 use Rattle.mc_walk.specs.TreeModel.{TreeModel}
 use Rattle.mc_walk.specs.Walks.{Toured, IsBeyondLast, StandsAt, StandsBeyond, Visits, Walked, Begins, Climbs, IsPath, root_of}
@@ -8,11 +8,7 @@ use Rattle.mc_walk.specs.declared.tour.Phase.TheVariants.{Fresh, Going, Done}
 
 module _ {N A T B : Type 0} (k : TreeModel N A T) (old : Toured B) (summary : T) (new : Walked B) (begins : Begins k old.walk summary new) where
   root_first : IsNext (IsPath k old.walk) AtStart []
-  root_first = record {
-    listed = (omega arith, tt);
-    past = tt;
-    none_between = λ m _ _ before. none_before_root m before;
-  }
+  root_first = grind (arith, none_before_root)
 
   at_start : (position : Position (List ℕ)) → old.phase ≡ Fresh → StandsAt k old position → position ≡ AtStart
   at_start position fresh at = rw fresh at at
@@ -41,16 +37,9 @@ module _ {N A T B : Type 0} (k : TreeModel N A T) (old : Toured B) (new : Walked
   )
 
   pub left_over : (went : Bool) → went ≡ false → Climbs k old.walk went new → Visits k old position false (record { walk = new; phase = Done })
-  left_over true is c = absurd cc
-  left_over false is c = (
-    subst (IsOver (IsPath k old.walk)) (sym beyond.position_is) (none_after_last k.tree (root_of k old.walk) old.walk.bound old.walk.path beyond.number beyond.deep beyond.last c.0),
-    c.2,
-    c.1,
-    refl,
-  )
+  left_over it is c = grind (arith, none_after_last)
 
 -- Where it visited no node yet, or there is no further one, it stays.
 pub stays_beyond : {N A T B : Type 0} (k : TreeModel N A T) (old : Toured B) (position : Position (List ℕ)) → (old.phase ≡ Fresh) ⊎ (old.phase ≡ Done) → StandsBeyond k old position
     → Visits k old position false old
-stays_beyond k old position (inl e) at = absurd (rw e at at)
-stays_beyond k old position (inr e) at = (rw e at at, refl, record { flash_tree = refl; bound = refl; origin = refl }, e)
+stays_beyond k old position it at = grind arith

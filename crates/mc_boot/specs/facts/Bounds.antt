@@ -4,7 +4,6 @@ use Rattle.std.specs.Int.{div_ceil}
 use Rattle.std.specs.List.{range_with_len}
 use Rattle.std.proofs.Common.{arith, ap, length-append, inl, inr}
 use Rattle.std.proofs.Math.Nat.{mul-le-mul_right}
-use Rattle.std.proofs.lemmas.Bool.Decides.{nat_tests}
 use Rattle.std.proofs.lemmas.List.{length-drop}
 use Rattle.std.proofs.lemmas.List.FromFn.{length-map-range_with_len, length-range_with_len}
 use Rattle.mc_flash.specs.Geometry.{Geometry, IsLayout, trailer_sectors, greatest_sectors, in_pieces}
@@ -87,7 +86,7 @@ module _ (g l : Geometry) where
 
   swapped : (c : Grain) (n : ℕ) (kind : SwapType) (size : ℕ) → length (swap_list c l kind size n)
       ≤ 2 * trailer_sectors l + 3 + write_count c l (max l.unit 4) + write_count c l 16 + 3 * n * (l.sector / l.chunk + 2)
-  swapped c n kind size = grind (arith, length-append, length-map-range_with_len, length-size c l Primary size, length-magic c l Primary, length-left n 0)
+  swapped c n kind size = grind (arith, length-append, length-map-range_with_len, length-size c l Primary size, length-left n 0)
 
   -- Three trailers, four flags, two sizes and two magics, and all transfers.
   pub course_count : (c : Grain) (n : ℕ) (o : Opening) → length (list_from c l n o)
@@ -146,12 +145,10 @@ course_bounded grains.Unit g n o ok few =
     }
 
 chosen_plan : (c : Grain) (g : Geometry) (b : Bool) (p q : Plan) → (b ≡ true → IsBoot c g p.list) → (b ≡ false → IsBoot c g q.list) → IsBoot c g (if b then p else q).list
-chosen_plan c g true p q when_true when_false = when_true refl
-chosen_plan c g false p q when_true when_false = when_false refl
+chosen_plan c g it p q when_true when_false = grind arith
 
 not_above : (n most : ℕ) (b : Bool) → (b || nat_lt most n) ≡ false → n ≤ most
-not_above n most true e = absurd cc
-not_above n most false e = grind (arith, nat_tests)
+not_above n most it e = grind arith
 
 idle_plan : (c : Grain) (g : Geometry) (kind : SwapType) → IsBoot c g (nothing kind).list
 idle_plan c g kind = none g (most_operations c g) (most_saved g)
@@ -217,8 +214,7 @@ plan_saves x ok = (plan_bounded x ok).saves
 
 first_less : (op : Op) (ops : List Op) (rest : Content → List Op) → ((t : Content) → length (rest t) ≤ length ops) → (o : Option Content)
     → length (first_then op rest o) ≤ length (op ∷ ops)
-first_less op ops rest less None = omega arith
-first_less op ops rest less (Some t) = omega (arith, less t)
+first_less op ops rest less it = grind arith
 
 happens_less : (g : Geometry) (ops : List Op) (s : Content) → length (happening g ops s) ≤ length ops
 happens_less g [] s = omega arith

@@ -5,19 +5,17 @@ use Rattle.std.proofs.lemmas.List.FromFn.{length-map-range_with_len, length-rang
 use Rattle.std.specs.List.{range_with_len}
 use Rattle.std.specs.Prelude.{List, [], flat_map, length, map, max, refl, replicate, ℕ, ◌*◌, ◌+◌, ◌-◌, ◌/◌, ◌∷◌, ◌≡◌}
 use Rattle.byteorder.specs.Endian.{little_bytes}
-use Rattle.mc_boot.specs.Plan.{brought_in, copy_of, entry_of, moved_up, piece, steps, taken_out, transfers, write, write_count}
+use Rattle.mc_boot.specs.Plan.{brought_in, copy_of, entry_of, moved_up, steps, taken_out, transfers, write, write_count}
 use Rattle.mc_boot.specs.declared.transfer.Transfer.{Transfer}
 use Rattle.mc_flash.specs.Geometry.{Geometry}
 use Rattle.mc_flash.specs.declared.flash.Grain.{Grain}
 use Rattle.mc_flash.specs.declared.op.Slot.{Slot}
-use Rattle.mc_trailer.specs.Trailer.{magic_bytes, place, size_bytes}
+use Rattle.mc_trailer.specs.Trailer.{magic_bytes, size_bytes}
 use Rattle.mc_trailer.specs.declared.places.Field.{Field}
 use Rattle.mc_trailer.specs.declared.places.Field.TheVariants as field
-use Rattle.mc_flash.specs.declared.flash.Grain.TheVariants as grains
 
 pub length-write : (c : Grain) (g : Geometry) (slot : Slot) (f : Field) (new : List ℕ) → length (write c g slot f new) ≡ write_count c g (length new)
-length-write grains.Call g slot f new = refl
-length-write grains.Unit g slot f new = length-map-range_with_len (piece g slot (place g slot f) new) 0 (length new / g.unit)
+length-write it g slot f new = grind (arith, length-map-range_with_len)
 
 pub length-size_bytes : (g : Geometry) (size : ℕ) → length (size_bytes g size) ≡ max g.unit 4
 length-size_bytes g size = omega (arith, length-append (little_bytes 4 size) (replicate (g.unit - 4) 255), length-replicate {A = ℕ} (g.unit - 4) 255)

@@ -9,7 +9,6 @@ use Rattle.mc_flash.specs.declared.op.Op.{Op}
 use Rattle.mc_flash.specs.declared.flash.FlashError.{FlashError}
 use Rattle.mc_flash.specs.declared.flash.FlashError.TheVariants as errors
 use Rattle.mc_trailer.specs.declared.tables.Rules.{Rules}
-use Rattle.mc_trailer.specs.declared.tables.SwapType.{SwapType}
 use Rattle.mc_boot.specs.Plan.{plan, PowerOn, power_on}
 use Rattle.mc_boot.specs.Outcome.{applied, first_then, happening, ops_of, at, is_faulted, left_by, Report, report, outcome_of}
 use Rattle.mc_boot.specs.Boot.{Progress, begun, stepped, refused, StepsAlong, Steps, HasCome}
@@ -18,8 +17,7 @@ use Rattle.mc_flash.specs.facts.Done.{did, undefined}
 
 first_happens : (g : Geometry) (op : Op) (ops left : List Op) (s t : Content) (k : ℕ) → ((x : Content) → applied g (take k ops) x ≡ Some t → happening g ops x ≡ take k ops ++ left)
     → (o : Option Content) → option_and_then (λ u. applied g (take k ops) u) o ≡ Some t → first_then op (λ u. happening g ops u) o ≡ op ∷ (take k ops ++ left)
-first_happens g op ops left s t k beyond None e = absurd cc
-first_happens g op ops left s t k beyond (Some x) e = ap (λ (xs : List Op). op ∷ xs) (beyond x e)
+first_happens g op ops left s t k beyond it e = grind arith
 
 -- What can be applied happens, and then what can be applied after it.
 pub happening_prefix : (g : Geometry) (ops : List Op) (k : ℕ) (s t : Content) → applied g (take k ops) s ≡ Some t → happening g ops s ≡ take k ops ++ happening g (drop k ops) t
@@ -31,18 +29,14 @@ happening_prefix g (op ∷ ops) (suc k) s t is =
 
 first_applied : (g : Geometry) (ops more : List Op) (t u : Content) → ((x : Content) → applied g ops x ≡ Some t → applied g more x ≡ Some u)
     → (o : Option Content) → option_and_then (λ x. applied g ops x) o ≡ Some t → option_and_then (λ x. applied g more x) o ≡ Some u
-first_applied g ops more t u beyond None e = absurd cc
-first_applied g ops more t u beyond (Some x) e = beyond x e
+first_applied g ops more t u beyond it e = grind arith
 
 -- One more operation is applied.
 pub applied_next : (g : Geometry) (ops rest : List Op) (op : Op) (k : ℕ) (s t u : Content) → applied g (take k ops) s ≡ Some t → drop k ops ≡ op ∷ rest → apply g op t ≡ Some u
     → applied g (take (suc k) ops) s ≡ Some u
 applied_next g [] rest op zero s t u is next given = absurd cc
 applied_next g [] rest op (suc k) s t u is next given = absurd cc
-applied_next g (first ∷ ops) rest op zero s t u is next given =
-    let same : s ≡ t = cc in
-    let head : first ≡ op = cc in
-    rw (same, head, given) refl
+applied_next g (first ∷ ops) rest op zero s t u is next given = grind arith
 applied_next g (first ∷ ops) rest op (suc k) s t u is next given =
     first_applied g (take k ops) (take (suc k) ops) t u (λ x e. applied_next g ops rest op k x t u e next given) (apply g first s) is
 
@@ -61,25 +55,16 @@ none_left {A = A} xs k is = omega (arith, length-drop k xs, ap (λ (ys : List A)
 
 -- At power-on.
 pub come_begun : (x : PowerOn) → HasCome x (begun x.rules (plan x)) x.content
-come_begun x = record {
-  rules = refl;
-  kind = refl;
-  within = omega arith;
-  happened = refl;
-  rest = refl;
-  refused = λ e. absurd cc;
-}
+come_begun x = grind arith
 
 next_of : (faulted : Bool) (rest ops : List Op) (op : Op) → op ∷ rest ≡ (if faulted then [] else ops) → (faulted ≡ false) × (ops ≡ op ∷ rest)
-next_of true rest ops op e = absurd cc
-next_of false rest ops op e = (refl, sym e)
+next_of it rest ops op e = grind arith
 
 plus_one : (n : ℕ) → n + 1 ≡ suc n
 plus_one n = omega arith
 
 left_is : (faulted : Bool) (rest ops : List Op) → faulted ≡ false → rest ≡ ops → rest ≡ (if faulted then [] else ops)
-left_is true rest ops other is = absurd cc
-left_is false rest ops other is = is
+left_is it rest ops other is = grind arith
 
 none_first : (g : Geometry) (op : Op) (rest : List Op) (t : Content) → apply g op t ≡ None → happening g (op ∷ rest) t ≡ []
 none_first g op rest t none = ap (λ (o : Option Content). first_then op (λ u. happening g rest u) o) none
@@ -186,12 +171,7 @@ come_left x p t come end = ap (at x) (come_ops x p t come end) ∙ come_at x p t
 -- What is reported at the end is the outcome of the uncut boot.
 pub come_outcome : (x : PowerOn) (p : Progress) (t : Content) → HasCome x p t → p.to_come ≡ [] → outcome_of x ≡ Some (report p.rules x.geometry p.kind p.count p.faulted t)
 unfolding outcome_of
-come_outcome from p t come end =
-    ap (option_map (λ z. report from.rules from.geometry (plan from).kind (length (ops_of from)) (is_faulted from) z)) (come_left from p t come end)
-    ∙ ap (λ (n : ℕ). Some (report from.rules from.geometry (plan from).kind n (is_faulted from) t)) (come_ops from p t come end)
-    ∙ ap (λ (b : Bool). Some (report from.rules from.geometry (plan from).kind p.count b t)) (come_faulted from p t come end)
-    ∙ ap (λ (k : SwapType). Some (report from.rules from.geometry k p.count p.faulted t)) (sym come.kind)
-    ∙ ap (λ (x : Rules). Some (report x from.geometry p.kind p.count p.faulted t)) (sym come.rules)
+come_outcome from p t come end = grind (arith, come_left, come_ops, come_faulted)
 
 -- ---- what a boot leaves is always defined
 
@@ -207,8 +187,7 @@ happens_applied g (op ∷ ops) s = happens_on g op ops s (λ t. happens_applied 
 
 prefix_on : (g : Geometry) (ops : List Op) (c : ℕ) (z : Content) → ((x : Content) → applied g ops x ≡ Some z → (t : Content) × (applied g (take c ops) x ≡ Some t))
     → (o : Option Content) → option_and_then (λ x. applied g ops x) o ≡ Some z → (t : Content) × (option_and_then (λ x. applied g (take c ops) x) o ≡ Some t)
-prefix_on g ops c z beyond None is = absurd cc
-prefix_on g ops c z beyond (Some x) is = beyond x is
+prefix_on g ops c z beyond it is = grind arith
 
 -- And so can a prefix of what can be applied.
 pub prefix_applied : (g : Geometry) (ops : List Op) (c : ℕ) (s z : Content) → applied g ops s ≡ Some z → (t : Content) × (applied g (take c ops) s ≡ Some t)

@@ -1,8 +1,8 @@
 -- What a step of a boot spends. Proved here, so that the crates above can cite it.
 use Rattle.std.specs.Prelude.{◌≡◌, ◌+◌, ◌<◌, ◌≤◌, false, List, [], ◌∷◌, length, slice_get, is_some, Option, Result, Ok, Err, refl}
-use Rattle.std.proofs.Common.{arith, inl, inr, sym, ap, subst, ◌∙◌}
+use Rattle.std.proofs.Common.{arith, inl, inr, sym, ap, subst}
 use Rattle.mc_flash.specs.Geometry.{Geometry}
-use Rattle.mc_flash.specs.Usage.{Counts, Limits, IsFull, Seen, GivesUp, RanOut, LeaveRoom, Allows, plus, room_of}
+use Rattle.mc_flash.specs.Usage.{Limits, IsFull, Seen, GivesUp, RanOut, LeaveRoom, Allows, room_of}
 use Rattle.mc_flash.specs.facts.Spends.{Notes, done_notes, gave_up}
 use Rattle.mc_flash.specs.declared.op.Op.{Op}
 use Rattle.mc_flash.specs.declared.flash.FlashError.{FlashError}
@@ -17,22 +17,12 @@ pub record StepSpends (p q : Progress) (old new : Seen) : Type 0 where
 
 -- ---- one after another
 
-pub step_spends_none : (p : Progress) (f : Seen) → StepSpends p p f f
-step_spends_none p f = record { applied = omega arith; limits = refl; failed = refl }
-
 -- Where the layout stays.
 pub counts_on_both : (o p q : Progress) (x y z : Seen) → y.geometry ≡ x.geometry → CountsOn o p x y → CountsOn p q y z → CountsOn o q x z
-counts_on_both o p q x y z same c d =
-    let E : Geometry → Type 0 = λ g. LeaveRoom z.usage.counts (left_of g q) (plus y.usage.counts (left_of g p)) in
-    let on = subst E same d in
-    record { entries = omega (arith, c.entries, on.entries); saved = omega (arith, c.saved, on.saved) }
+counts_on_both o p q x y z same c d = grind arith
 
 pub step_spends_both : (o p q : Progress) (x y z : Seen) → StepSpends o p x y → StepSpends p q y z → StepSpends o q x z
-step_spends_both o p q x y z s t = record {
-  applied = omega (arith, s.applied, t.applied);
-  limits = t.limits ∙ s.limits;
-  failed = t.failed ∙ s.failed;
-}
+step_spends_both o p q x y z s t = grind arith
 
 -- ---- the first operation to come
 
@@ -44,47 +34,26 @@ none_first (op ∷ rest) first is none = absurd cc
 
 module _ (p q : Progress) (old new : Seen) where
   stays_counted : q ≡ p → new.usage.counts ≡ old.usage.counts → CountsOn p q old new
-  stays_counted a b =
-      let P : Progress → Type 0 = λ x. CountsOn p x old new in
-      let Q : Counts → Type 0 = λ c. LeaveRoom c (left_of old.geometry p) (plus old.usage.counts (left_of old.geometry p)) in
-      subst P (sym a) (subst Q (sym b) (record { entries = omega arith; saved = omega arith }))
+  stays_counted a b = grind arith
 
   stays_spent : q ≡ p → new ≡ old → StepSpends p q old new
-  stays_spent a b =
-      let P : Progress → Type 0 = λ x. StepSpends p x old new in
-      let Q : Seen → Type 0 = λ f. StepSpends p p old f in
-      subst P (sym a) (subst Q (sym b) (step_spends_none p old))
+  stays_spent a b = grind arith
 
   module _ (op : Op) (rest : List Op) (first : p.to_come ≡ op ∷ rest) where
     next_counted : q.to_come ≡ rest → Notes old.geometry op old.usage new.usage → CountsOn p q old new
-    next_counted left n = record {
-      entries = omega (arith, n.entries, ap (λ (ops : List Op). length ops) first, ap (λ (ops : List Op). length ops) left);
-      saved = omega (arith, n.saved, ap (all_saves old.geometry) first, ap (all_saves old.geometry) left);
-    }
+    next_counted left n = grind arith
 
     next_spent : q.to_come ≡ rest → Notes old.geometry op old.usage new.usage → StepSpends p q old new
-    next_spent left n = record {
-      applied = omega (arith, n.applied, ap (λ (ops : List Op). length ops) first, ap (λ (ops : List Op). length ops) left);
-      limits = n.limits;
-      failed = n.failed;
-    }
+    next_spent left n = grind arith
 
   none_counted : q.to_come ≡ [] → new ≡ old → CountsOn p q old new
-  none_counted left same = record {
-    entries = omega (arith, ap (λ (f : Seen). f.usage.counts.entries) same, ap (λ (ops : List Op). length ops) left);
-    saved = omega (arith, ap (λ (f : Seen). f.usage.counts.saved) same, ap (all_saves old.geometry) left);
-  }
+  none_counted left same = grind arith
 
   none_spent : q.to_come ≡ [] → new ≡ old → StepSpends p q old new
-  none_spent left same = record {
-    applied = omega (arith, ap (λ (f : Seen). f.usage.applied) same, ap (λ (ops : List Op). length ops) left);
-    limits = ap (λ (f : Seen). f.usage.limits) same;
-    failed = ap (λ (f : Seen). f.usage.failed) same;
-  }
+  none_spent left same = grind arith
 
   given_up : (op : Op) → GivesUp (IsFull old.geometry op old.usage) old new → new.usage.counts ≡ old.usage.counts
-  given_up op (inl kept) = ap (λ (f : Seen). f.usage.counts) kept.2
-  given_up op (inr lost) = ap (λ (f : Seen). f.usage.counts) lost.1
+  given_up op it = grind arith
 
   -- Whatever it answers.
   pub step_counts : (result : Result (Unit {0}) FlashError) → Steps p old result q new → CountsOn p q old new
@@ -133,12 +102,7 @@ module _ (p q : Progress) (old new : Seen) where
   step_allows result other steps same allows =
       let c = step_counts result steps in
       let limits = (step_spends result other steps).limits in
-      let P : Geometry → Type 0 = λ g. Allows (left_of g q) new in
-      let Q : Limits → Type 0 = λ l. LeaveRoom new.usage.counts (left_of old.geometry q) (room_of l) in
-      subst P (sym same) (subst Q (sym limits) (record {
-        entries = omega (arith, c.entries, allows.entries);
-        saved = omega (arith, c.saved, allows.saved);
-      }))
+      grind (arith, limits)
 
   -- After a refusal nothing is to come, and no operation more happened.
   pub refused_here : (result : Result (Unit {0}) FlashError) → result ≡ Err errors.NotErased → Steps p old result q new

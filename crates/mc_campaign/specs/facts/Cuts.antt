@@ -1,5 +1,5 @@
 -- Cuts, each with its round.
-use Rattle.std.specs.Prelude.{◌≡◌, ℕ, zero, suc, ◌+◌, ◌-◌, ◌<◌, ◌≤◌, get_or, nat_lt, if◌then◌else◌, Bool, true, false, List, [], ◌∷◌, ◌++◌, length, map, refl}
+use Rattle.std.specs.Prelude.{◌≡◌, ℕ, zero, suc, ◌+◌, ◌-◌, ◌<◌, ◌≤◌, get_or, nat_lt, if◌then◌else◌, Bool, true, false, List, [], ◌∷◌, ◌++◌, length, refl}
 use Rattle.std.proofs.Common.{arith, inl, inr, sym, ap, subst, ◌∙◌, length-append}
 use Rattle.std.proofs.lemmas.Bool.{cases_lt}
 use Rattle.std.proofs.lemmas.List.{length-map}
@@ -7,9 +7,7 @@ use Rattle.mc_tree.specs.Tree.{Tree, RoundNode, round_one, round_two, labels, pa
 use Rattle.mc_campaign.specs.Campaigns.{AscendFrom, IsInOrder, in_round}
 
 pub pairs_length : (prefix later : List ℕ) → length (pairs prefix later) ≡ length prefix + length later
-pairs_length prefix later =
-    length-append (map (λ i. (1, i)) prefix) (map (λ j. (2, j)) later)
-    ∙ omega (arith, length-map {B = ℕ × ℕ} prefix (λ i. (1, i)), length-map {B = ℕ × ℕ} later (λ j. (2, j)))
+pairs_length prefix later = grind (arith, length-append, length-map)
 
 -- ---- the cuts of each round
 

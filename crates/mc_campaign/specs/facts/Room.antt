@@ -1,6 +1,6 @@
 -- At most 16 cuts in fixed room: the cuts stand first, and blanks fill the rest.
 use Rattle.std.specs.Prelude.{◌≡◌, ℕ, ◌-◌, ◌≤◌, List, ◌++◌, length, take, drop, replicate}
-use Rattle.std.proofs.Common.{sym, ap, ◌∙◌, arith}
+use Rattle.std.proofs.Common.{arith}
 use Rattle.std.proofs.lemmas.List.{take-append-drop, length-take-le}
 
 abbrev pub blanks_after : ℕ → List (ℕ × ℕ)
@@ -12,7 +12,4 @@ len_again room len whole at_most = length-take-le len room (omega arith)
 -- The room of the cuts that it begins with.
 pub room_again : (room : List (ℕ × ℕ)) (len : ℕ) → length room ≡ 16 → len ≤ 16 → drop len room ≡ blanks_after len
     → take len room ++ blanks_after (length (take len room)) ≡ room
-room_again room len whole at_most rest =
-    ap (λ n. take len room ++ blanks_after n) (len_again room len whole at_most)
-    ∙ ap (λ (z : List (ℕ × ℕ)). take len room ++ z) (sym rest)
-    ∙ take-append-drop len room
+room_again room len whole at_most rest = grind (arith, len_again, take-append-drop)

@@ -1,5 +1,5 @@
 -- A walk that goes to the children of a node, one after another.
-use Rattle.std.proofs.Common.{List, [], ap, arith, length, length-append, subst, suc, sym, true, ℕ, ◌++◌, ◌<◌, ◌∙◌, ◌∷◌, ◌≡◌}
+use Rattle.std.proofs.Common.{List, [], arith, length, length-append, subst, suc, sym, true, ℕ, ◌++◌, ◌<◌, ◌∙◌, ◌∷◌, ◌≡◌}
 use Rattle.std.proofs.lemmas.List.{same_from_push}
 use Rattle.mc_explore.specs.inner.Table.{CanPass, HasSameLimits, Passed, ReachesChild}
 use Rattle.mc_flash.specs.Flash.{Content}
@@ -13,12 +13,7 @@ module _ {N A T B : Type 0} (k : TreeModel N A T) where
   -- At the end of its path the flash stands at a child, with both summaries.
   pub child_here : (w : Walked B) (f : Frame A T) (summary : T) → IsThere k w summary → (step : IsLastStep k w f)
       → IsChildOf k (landed k.tree (root_of k w) step.before) f.number f.at f.parent summary w.seen
-  child_here w f summary there step = record {
-    at_is = step.at_is;
-    some = step.some;
-    parent_is = step.parent_is;
-    child_is = subst (λ n. k.IsSummary n summary) (ap (landed k.tree (root_of k w)) step.path_is ∙ landed-push k.tree (root_of k w) step.before f.number) there.summary_is;
-  }
+  child_here w f summary there step = grind (arith, landed-push)
 
 -- The children of the node where a walk stood, one after another.
 module _ {N A T B : Type 0} (model : B → TreeModel N A T) (old : Walked B) where

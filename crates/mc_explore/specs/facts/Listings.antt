@@ -1,6 +1,6 @@
 -- The one list of the rows to come, whatever they are.
 use Rattle.std.specs.Prelude.{All, Bool}
-use Rattle.std.proofs.Common.{◌≡◌, ℕ, zero, suc, ◌<◌, List, [], ◌∷◌, ◌++◌, length, take, None, refl, sym, subst, ap, ◌∙◌, arith}
+use Rattle.std.proofs.Common.{◌≡◌, ℕ, zero, suc, ◌<◌, List, [], ◌∷◌, ◌++◌, length, take, None, refl, ap, ◌∙◌, arith}
 use Rattle.mc_tree.specs.Tree.{Chain, JoinUp, last_key, Position, After, IsPastIn}
 use Rattle.mc_tree.specs.Tree as lists
 use Rattle.mc_tree.specs.facts.Joined as joined
@@ -10,13 +10,7 @@ use Rattle.mc_explore.specs.Pages.{Listing, IsLawful, IsRest, IsFirst, FindsRow,
 module _ {S K R C : Type 0} (l : Listing S K R C) (laws : IsLawful l) where
   -- After a row that was given the others are to come.
   pub rest_moved : (state : S) (k : K) (rows : List R) → lists.IsRest l.Before l.key (l.IsRow state) (After k) rows → IsRest l (l.moved_to state k) rows
-  rest_moved state k rows r =
-      let P : R → Position K → Type 0 = λ row p. IsPastIn l.Before p (l.key row) in
-      record {
-        ascends = r.ascends;
-        only = λ row i. let o = r.only row i in (laws.rows_stay state k row o.0, subst (P row) (sym (laws.position_is state k)) o.1);
-        all = λ row is past. r.all row (laws.rows_stayed state k row is) (subst (P row) (laws.position_is state k) past);
-      }
+  rest_moved state k rows r = grind arith
 
   -- The next row is the first of them.
   pub rest_next : (state : S) (row : R) (rows : List R) → IsFirst l state row → IsRest l state rows

@@ -1,7 +1,6 @@
 -- The flash that power cuts leave, as an option and as a total function: where the cuts can occur the two are one.
-use Rattle.std.specs.Prelude.{◌≡◌, ℕ, ◌<◌, nat_lt, Bool, true, false, is_some, if◌then◌else◌, List, [], ◌∷◌, length, Option, Some, None, option_and_then, refl}
+use Rattle.std.specs.Prelude.{◌≡◌, ℕ, ◌<◌, nat_lt, Bool, true, is_some, if◌then◌else◌, List, [], ◌∷◌, length, Option, Some, None, option_and_then, refl}
 use Rattle.std.proofs.Common.{arith, sym, ap, ◌∙◌}
-use Rattle.std.proofs.lemmas.Bool.Decides.{nat_tests}
 use Rattle.mc_flash.specs.Flash.{Content}
 use Rattle.mc_boot.specs.Plan.{plan, PowerOn, again}
 use Rattle.mc_boot.specs.Outcome.{ops_of, at, cut_at, after}
@@ -24,9 +23,7 @@ unfolding at_cut
 lands_at x t c e = ap (content_or x.content) (sym e)
 
 cut_is : (x : PowerOn) (c : ℕ) → c < length (ops_of x) → cut_at x c ≡ Some (at_cut x c)
-cut_is x c lt =
-    let test : nat_lt c (length (ops_of x)) ≡ true = grind (arith, nat_tests) in
-    ap (λ b. if b then at x c else None) test ∙ at_is x c
+cut_is x c lt = grind (arith, at_is)
 
 -- Where each boot makes more operations than its cut says, the flash is the defined one.
 pub allowed_after : (x : PowerOn) (l : List ℕ) → Allowed (boots x.rules x.geometry) x.content l → after x l ≡ Some (landed (boots x.rules x.geometry) x.content l)
@@ -40,11 +37,7 @@ allowed_occurs x l a = ap (λ (o : Option Content). is_some o) (allowed_after x 
 first_allowed : (x : PowerOn) (c : ℕ) (cs : List ℕ) (b : Bool) → nat_lt c (length (ops_of x)) ≡ b
     → ((t : Content) → CanOccur (again x t) cs → Allowed (boots x.rules x.geometry) t cs)
     → is_some (option_and_then (λ t. after (again x t) cs) (if b then at x c else None)) ≡ true → (c < length (ops_of x)) × Allowed (boots x.rules x.geometry) (at_cut x c) cs
-first_allowed x c cs false e beyond some = absurd cc
-first_allowed x c cs true e beyond some = (
-  grind (arith, nat_tests),
-  beyond (at_cut x c) (ap (λ (o : Option Content). is_some (option_and_then (λ t. after (again x t) cs) o)) (sym (at_is x c)) ∙ some),
-)
+first_allowed x c cs it e beyond some = grind (arith, at_is)
 
 -- And only there can they occur.
 pub occurs_allowed : (x : PowerOn) (l : List ℕ) → CanOccur x l → Allowed (boots x.rules x.geometry) x.content l

@@ -1,14 +1,13 @@
 -- The summary of a flash, and where the boot from there begins.
-use Rattle.std.specs.Prelude.{◌≡◌, ℕ, length, Option, Some, None, option_map}
-use Rattle.std.proofs.Common.{arith, sym, ap, subst, ◌∙◌}
+use Rattle.std.specs.Prelude.{◌≡◌, ℕ, length, Option, Some, None}
+use Rattle.std.proofs.Common.{arith}
 use Rattle.mc_flash.specs.Flash.{Content}
 use Rattle.mc_flash.specs.Geometry.{Geometry}
 use Rattle.mc_flash.specs.Usage.{Counts, LeaveRoom, plus}
 use Rattle.mc_trailer.specs.declared.tables.Rules.{Rules}
-use Rattle.mc_boot.specs.Boot.{Progress, progress, left_of, HasCome}
-use Rattle.mc_boot.specs.Outcome.{Report, outcome_of, report, shown, is_faulted, ops_of}
-use Rattle.mc_boot.specs.Plan.{plan, PowerOn, power_on}
-use Rattle.mc_boot.specs.facts.Run.{come_begun, left_defined}
+use Rattle.mc_boot.specs.Boot.{progress, left_of}
+use Rattle.mc_boot.specs.Outcome.{Report, outcome_of, report, shown, ops_of}
+use Rattle.mc_boot.specs.Plan.{PowerOn, power_on}
 use Rattle.mc_explore.specs.inner.OneRound.{HasMade, IsSummary, most_of}
 use Rattle.mc_explore.specs.declared.one_round.Summary.{Summary}
 use Rattle.mc_explore.specs.facts.Occurring.{at_zero}
@@ -20,29 +19,15 @@ count_in (Some o) = o.ops
 -- What an outcome says of the operations.
 pub outcome_ops : (x : PowerOn) (o : Report) → outcome_of x ≡ Some o → o.ops ≡ length (ops_of x)
 unfolding outcome_of report count_in
-outcome_ops x o e =
-    let left = left_defined x in
-    let is : Some o ≡ Some (report x.rules x.geometry (plan x).kind (length (ops_of x)) (is_faulted x) left.0) =
-    sym e ∙ ap (option_map (λ z. report x.rules x.geometry (plan x).kind (length (ops_of x)) (is_faulted x) z)) left.1 in
-    ap count_in is
+outcome_ops x o e = grind arith
 
 module _ (r : Rules) (g : Geometry) where
   pub width_is : (summary : Summary) (s : Content) → IsSummary (power_on r g s) summary → summary.outcome.ops ≡ length (ops_of (power_on r g s))
   width_is summary s t = outcome_ops (power_on r g s) (shown summary.outcome) t.outcome_is
 
   pub first_on : (s : Content) (summary : Summary) → IsSummary (power_on r g s) summary → HasMade (power_on r g s) 0 summary.boot
-  first_on s summary t =
-      let P : Progress → Type 0 = λ p. HasCome (power_on r g s) p s in
-      record {
-        layout_is = t.layout_is;
-        list_is = t.list_is;
-        come = subst (HasCome (power_on r g s) (progress summary.boot)) (at_zero (power_on r g s)) (subst P (sym t.boot_is) (come_begun (power_on r g s)));
-        count_is = ap (λ (p : Progress). p.count) t.boot_is;
-      }
+  first_on s summary t = grind (arith, at_zero)
 
   -- What it has left is a whole boot at most.
   pub first_left : (s : Content) (summary : Summary) → IsSummary (power_on r g s) summary → (old : Counts) → LeaveRoom old (left_of g (progress summary.boot)) (plus old (most_of r g))
-  first_left s summary t old = record {
-    entries = omega (arith, t.at_most.at_most, ap (λ (p : Progress). length p.to_come) t.boot_is);
-    saved = omega (arith, t.at_most.saves, ap (λ (p : Progress). (left_of g p).saved) t.boot_is);
-  }
+  first_left s summary t old = grind arith

@@ -1,6 +1,5 @@
 -- Where the flashes after a cut lie among those of the boot that was cut, as nodes of the tree.
-use Rattle.std.proofs.Common.{ap, arith, if◌then◌else◌, length, max, nat_le, sym, true, ℕ, ◌+◌, ◌<◌, ◌∙◌, ◌≡◌, ◌≤◌}
-use Rattle.std.proofs.lemmas.Bool.Decides.{nat_tests}
+use Rattle.std.proofs.Common.{ap, arith, length, sym, ℕ, ◌+◌, ◌<◌, ◌∙◌, ◌≡◌, ◌≤◌}
 use Rattle.mc_boot.specs.Outcome.{ops_of}
 use Rattle.mc_boot.specs.Plan.{power_on}
 use Rattle.mc_boot.specs.SharedTail.{IsSharedTail, index_in_parent}
@@ -10,14 +9,12 @@ use Rattle.mc_explore.specs.inner.OneRound.{at_cut, boots}
 use Rattle.mc_flash.specs.Flash.{Content}
 use Rattle.mc_flash.specs.Geometry.{Geometry}
 use Rattle.mc_trailer.specs.declared.tables.Rules.{Rules}
-use Rattle.mc_tree.specs.inner.Weights.{IsShared, Weighing, weight}
+use Rattle.mc_tree.specs.inner.Weights.{IsShared, Weighing}
 
 module _ (r : Rules) (g : Geometry) where
   module _ (s u : Content) (x : SharedTail) (joined : IsSharedTail (power_on r g s) u x) where
     pub late_index : (i : ℕ) → x.erases ≤ i → index_in_parent x i ≡ x.kept + i
-    late_index i le =
-        let test : nat_le x.erases i ≡ true = grind (arith, nat_tests) in
-        ap (λ b. if b then x.kept + i else (if nat_le x.done (x.kept + x.erases) then max x.done (x.kept + i) else if nat_le i x.only then x.done else x.kept + x.erases)) test
+    late_index i le = grind arith
 
     pub placed_at : (i : ℕ) → i < length (ops_of (power_on r g u)) → at_cut (power_on r g u) i ≡ at_cut (power_on r g s) (index_in_parent x i)
     placed_at i lt = lands_at (power_on r g s) (at_cut (power_on r g u) i) (index_in_parent x i) (sym (joined.same i lt) ∙ at_is (power_on r g u) i)
@@ -26,10 +23,4 @@ module _ (r : Rules) (g : Geometry) where
     placed_late i le lt = placed_at i lt ∙ ap (at_cut (power_on r g s)) (late_index i le)
 
     pub tail_shared : {M : Type 0} (w : Weighing M) (own : Content → M) → IsShared w (boots r g) own s u x.kept x.erases (index_in_parent x)
-    tail_shared w own = record {
-      width = joined.width;
-      at_most = joined.at_most;
-      within = λ i lt. joined.within i (omega (arith, lt, joined.at_most));
-      early = λ i lt k. ap (weight w (boots r g) own k) (placed_at i (omega (arith, lt, joined.at_most)));
-      late = λ i le lt k. ap (weight w (boots r g) own k) (placed_late i le lt);
-    }
+    tail_shared w own = grind (arith, placed_at)

@@ -1,11 +1,11 @@
 -- What an operation changes and what it keeps, byte by byte. Proved here, so that the crates above can cite it.
-use Rattle.std.proofs.Common.{ap, arith, sym, ◌∙◌}
+use Rattle.std.proofs.Common.{arith, ◌∙◌}
 use Rattle.std.proofs.lemmas.Bool.Decides.{nat_tests}
 use Rattle.std.proofs.lemmas.Grind.{common_steps}
 use Rattle.std.proofs.lemmas.List.{get_or-append_right, get_or-drop, get_or-take, get_or_append_left, length-replicate, length-take-le}
 use Rattle.std.proofs.lemmas.List.Edits.{get_or-between, length-between}
 use Rattle.std.specs.List.{between}
-use Rattle.std.specs.Prelude.{Bool, List, None, Option, Some, [], drop, false, length, refl, replicate, slice_index, suc, take, true, zero, ℕ, ◌&&◌, ◌*◌, ◌++◌, ◌+◌, ◌-◌, ◌<◌, ◌==◌, ◌∷◌, ◌≡◌, ◌≢◌, ◌≤◌}
+use Rattle.std.specs.Prelude.{Bool, List, None, Option, Some, [], false, length, refl, replicate, slice_index, suc, true, zero, ℕ, ◌&&◌, ◌*◌, ◌+◌, ◌<◌, ◌==◌, ◌∷◌, ◌≡◌, ◌≢◌, ◌≤◌}
 use Rattle.mc_flash.specs.Flash.{Content, IsSized, apply, byte, bytes_of, in_slot, is_blank, programmed, put, size_of, with_bytes}
 use Rattle.mc_flash.specs.Geometry.{Geometry}
 use Rattle.mc_flash.specs.declared.op.Slot.{Slot}
@@ -16,24 +16,13 @@ pub length-put : (xs new : List ℕ) (at : ℕ) → at + length new ≤ length x
 length-put xs new at fits = grind (arith, common_steps)
 
 pub put_inside : (xs new : List ℕ) (at i : ℕ) → at + length new ≤ length xs → i < length new → slice_index (put xs at new) (at + i) ≡ slice_index new i
-put_inside xs new at i fits within =
-    let prefix : length (take at xs) ≡ at = length-take-le at xs (omega (arith, fits)) in
-    get_or-append_right (take at xs) (new ++ drop (at + length new) xs) at (at + i) 0 prefix (omega arith)
-    ∙ ap (λ k. slice_index (new ++ drop (at + length new) xs) k) (omega arith)
-    ∙ get_or_append_left new (drop (at + length new) xs) 0 i within
+put_inside xs new at i fits within = grind (arith, length-take-le, get_or-append_right, get_or_append_left)
 
 pub put_before : (xs new : List ℕ) (at i : ℕ) → at + length new ≤ length xs → i < at → slice_index (put xs at new) i ≡ slice_index xs i
-put_before xs new at i fits outside =
-    let prefix : length (take at xs) ≡ at = length-take-le at xs (omega (arith, fits)) in
-    get_or_append_left (take at xs) (new ++ drop (at + length new) xs) 0 i (omega (arith, prefix)) ∙ get_or-take at xs i 0 outside
+put_before xs new at i fits outside = grind (arith, length-take-le, get_or_append_left, get_or-take)
 
 pub put_beyond : (xs new : List ℕ) (at i : ℕ) → at + length new ≤ length xs → at + length new ≤ i → slice_index (put xs at new) i ≡ slice_index xs i
-put_beyond xs new at i fits outside =
-    let prefix : length (take at xs) ≡ at = length-take-le at xs (omega (arith, fits)) in
-    get_or-append_right (take at xs) (new ++ drop (at + length new) xs) at i 0 prefix (omega (arith, outside))
-    ∙ get_or-append_right new (drop (at + length new) xs) (length new) (i - at) 0 refl (omega (arith, outside))
-    ∙ get_or-drop (at + length new) xs (i - at - length new) 0
-    ∙ ap (λ k. slice_index xs k) (omega (arith, outside))
+put_beyond xs new at i fits outside = grind (arith, length-take-le, get_or-append_right, get_or-drop)
 
 -- bytes are blank exactly where each of them is 0xff
 pub all_blank : (xs : List ℕ) → ((i : ℕ) → i < length xs → slice_index xs i ≡ 255) → is_blank xs ≡ true
@@ -50,14 +39,10 @@ blank_each (x ∷ xs) zero blank below = grind (arith, nat_tests)
 blank_each (x ∷ xs) (suc i) blank below = blank_each xs i (and_true (x == 255) (is_blank xs) blank) (omega (arith, below))
 
 pub blank_range : (xs : List ℕ) (at n : ℕ) → at + n ≤ length xs → ((i : ℕ) → i < n → slice_index xs (at + i) ≡ 255) → is_blank (between at (at + n) xs) ≡ true
-blank_range xs at n fits each = all_blank (between at (at + n) xs) (λ i below.
-    let short : i < n = omega (arith, below, length-between xs at (at + n) fits) in
-    get_or-between xs at (at + n) i 0 (omega (arith, short)) ∙ each i short)
+blank_range xs at n fits each = grind (arith, all_blank, length-between, get_or-between)
 
 pub range_blank : (xs : List ℕ) (at n i : ℕ) → at + n ≤ length xs → is_blank (between at (at + n) xs) ≡ true → i < n → slice_index xs (at + i) ≡ 255
-range_blank xs at n i fits blank short =
-    sym (get_or-between xs at (at + n) i 0 (omega (arith, short)))
-    ∙ blank_each (between at (at + n) xs) i blank (omega (arith, short, length-between xs at (at + n) fits))
+range_blank xs at n i fits blank short = grind (arith, get_or-between, blank_each, length-between)
 
 -- Two contents that differ at most in some bytes of one slot, from an offset on, which are `new` in the second.
 pub record Changed (s t : Content) (slot : Slot) (at : ℕ) (new : List ℕ) : Type 0 where

@@ -1,8 +1,8 @@
 -- What follows from the facts of a layout: where the trailer lies, what is a whole number of units, and which sectors hold
 -- data. Proved here, so that the crates above can cite it.
-use Rattle.std.specs.Prelude.{◌≡◌, ℕ, ◌+◌, ◌-◌, ◌*◌, ◌/◌, ◌%◌, ◌<◌, ◌≤◌, min, ℤ, pos, int_le, true, refl}
+use Rattle.std.specs.Prelude.{◌≡◌, ℕ, ◌+◌, ◌-◌, ◌*◌, ◌/◌, ◌%◌, ◌<◌, ◌≤◌, min, ℤ, pos, int_le, true}
 use Rattle.std.specs.Int.{div_ceil}
-use Rattle.std.proofs.Common.{arith, sym, ap, ◌∙◌, inl, inr}
+use Rattle.std.proofs.Common.{arith, sym, ap, ◌∙◌}
 use Rattle.std.proofs.lemmas.Bool.{leb-true}
 use Rattle.std.proofs.lemmas.Int.{ints, clamps}
 use Rattle.std.proofs.lemmas.Grind.{div_ceil_times}
@@ -23,11 +23,7 @@ trailer_leaves_one g Primary ok = let room = ok.room in omega arith
 trailer_leaves_one g Secondary ok = let room = ok.room in omega arith
 
 pub trailer_inside : (g : Geometry) (slot : Slot) → IsLayout g → trailer_bytes g ≤ size_of g slot
-trailer_inside g slot ok =
-    let covered = trailer_covered g ok in
-    let leaves = trailer_leaves_one g slot ok in
-    let more : trailer_sectors g * g.sector ≤ sectors_of g slot * g.sector = mul-le-mul_right g.sector (omega arith) in
-    omega arith
+trailer_inside g slot ok = grind (arith, trailer_covered, trailer_leaves_one, mul-le-mul_right)
 
 -- Whole units.
 abbrev pub IsWhole : Geometry → ℕ → Type 0
@@ -46,12 +42,7 @@ pub whole_units : (g : Geometry) (c : ℕ) → IsWhole g (c * g.unit)
 whole_units g c = mod-eq-zero_of_dvd g.unit (dvd-mul_left g.unit c)
 
 pub whole_eight : (g : Geometry) → IsLayout g → IsWhole g 8
-whole_eight g ok = elim ok.unit [
-  | inl one ↦ rw one refl
-  | inr (inl two) ↦ rw two refl
-  | inr (inr (inl four)) ↦ rw four refl
-  | inr (inr (inr eight)) ↦ rw eight refl
-]
+whole_eight g ok = grind arith
 
 pub whole_eights : (g : Geometry) (c : ℕ) → IsLayout g → IsWhole g (c * 8)
 whole_eights g c ok = whole_times g c 8 (whole_eight g ok)
@@ -67,12 +58,7 @@ pub chunks_cover : (g : Geometry) → IsLayout g → g.sector / g.chunk * g.chun
 chunks_cover g ok = let h = ok.sector_chunks in let e = mod-add-div' g.sector g.chunk in omega (arith, h, e)
 
 pub small_unit : (g : Geometry) → IsLayout g → (0 < g.unit) × (g.unit ≤ 8)
-small_unit g ok = elim ok.unit [
-  | inl one ↦ omega arith
-  | inr (inl two) ↦ omega arith
-  | inr (inr (inl four)) ↦ omega arith
-  | inr (inr (inr eight)) ↦ omega arith
-]
+small_unit g ok = grind arith
 
 -- The sectors of a slot that hold no trailer, and where they end.
 abbrev pub data_sectors : Geometry → Slot → ℕ

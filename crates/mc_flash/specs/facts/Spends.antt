@@ -1,10 +1,10 @@
 -- What follows for what calls spend. Proved here, so that the crates above can cite it.
-use Rattle.std.specs.Prelude.{◌≡◌, ℕ, ◌+◌, ◌<◌, ◌≤◌, Bool, true, false, [], ◌∷◌, ◌++◌, length, take, slice_index_or, Some, Result, Ok, Err, refl}
+use Rattle.std.specs.Prelude.{◌≡◌, ℕ, ◌+◌, ◌<◌, ◌≤◌, Bool, true, false, length, Some, Result, Ok, Err, refl}
 use Rattle.std.proofs.Common.{arith, inl, inr, sym, ap, subst, ◌∙◌}
 use Rattle.std.proofs.lemmas.List.{get_or_at, take_at}
 use Rattle.mc_flash.specs.facts.Done.{did}
 use Rattle.mc_flash.specs.Geometry.{Geometry}
-use Rattle.mc_flash.specs.Usage.{Usage, Limits, Checkpoint, noted_by, saves, Seen, GivesUp, NoMarkFits, Keeps, Marks, done, marked, no_checkpoint, checkpoint_at, checkpoint_of, went_back, Spent, RanOut, Spends, Stays}
+use Rattle.mc_flash.specs.Usage.{Usage, Limits, noted_by, saves, Seen, GivesUp, NoMarkFits, Keeps, Marks, done, marked, went_back, Spent, RanOut, Spends, Stays}
 use Rattle.mc_flash.specs.declared.flash.FlashError.{FlashError}
 use Rattle.mc_flash.specs.declared.flash.FlashError.TheVariants as errors
 use Rattle.mc_flash.specs.declared.op.Op.{Op}
@@ -48,11 +48,7 @@ done_notes op old new is =
 -- A flash with room gives up only where memory fails it.
 pub gave_up : (full : Type 0) (old new : Seen) → (full → ⊥) → GivesUp full old new → RanOut old new
 gave_up full old new room (inl g) = absurd (room g.1)
-gave_up full old new room (inr g) = record {
-  counted = g.0;
-  limits = ap (λ (f : Seen). f.usage.limits) g.1;
-  failed = ap (λ (f : Seen). f.usage.failed) g.1;
-}
+gave_up full old new room (inr g) = grind arith
 
 -- ---- checkpoints
 
@@ -71,13 +67,4 @@ spent_back number f = record { applied = omega arith; limits = refl; failed = re
 -- A flash that was marked and worked on, and is back at that checkpoint.
 pub stays_back : (old mid end : Seen) → mid ≡ marked old → Keeps mid end → Stays old (went_back (length old.checkpoints) end)
 unfolding went_back
-stays_back old mid end m keeps =
-    let checkpoints : end.checkpoints ≡ old.checkpoints ++ checkpoint_of old ∷ [] = keeps.checkpoints ∙ ap (λ (f : Seen). f.checkpoints) m in
-    let checkpoint : checkpoint_at end (length old.checkpoints) ≡ checkpoint_of old =
-    ap (λ ms. slice_index_or ms (length old.checkpoints) no_checkpoint) checkpoints ∙ get_or_at old.checkpoints (checkpoint_of old) [] no_checkpoint (length old.checkpoints) refl in
-    record {
-      geometry = keeps.geometry ∙ ap (λ (f : Seen). f.geometry) m;
-      content = ap (λ (s : Checkpoint). s.content) checkpoint;
-      checkpoints = ap (take (length old.checkpoints)) checkpoints ∙ take_at old.checkpoints (checkpoint_of old ∷ []) (length old.checkpoints) refl;
-      counts = ap (λ (s : Checkpoint). s.counts) checkpoint;
-    }
+stays_back old mid end m keeps = grind (arith, get_or_at, take_at)

@@ -1,7 +1,7 @@
 -- How much a boot does at most, in numbers. Proved here, so that the crates above can cite it.
 use Rattle.std.specs.Prelude.{◌≡◌, ℕ, ◌+◌, ◌*◌, ◌/◌, ◌<◌, ◌≤◌, ◌⊎◌}
 use Rattle.std.specs.Int.{div_ceil}
-use Rattle.std.proofs.Common.{arith, inl, inr}
+use Rattle.std.proofs.Common.{arith}
 use Rattle.std.proofs.Math.Nat.{mul-le-mul_left, mul-le-mul_right, mod-add-div'}
 use Rattle.mc_flash.specs.Geometry.{Geometry, IsLayout, trailer_sectors, greatest_sectors}
 use Rattle.mc_flash.specs.facts.Layouts.{trailer_leaves_one, small_unit}
@@ -11,11 +11,7 @@ use Rattle.mc_flash.specs.declared.flash.Grain.TheVariants as grains
 use Rattle.mc_flash.specs.declared.op.Slot.TheVariants.{Primary}
 
 pub few_trailer_sectors : (g : Geometry) → IsLayout g → trailer_sectors g ≤ 262144
-few_trailer_sectors g ok =
-    let leaves = trailer_leaves_one g Primary ok in
-    let size = ok.size in
-    let rows : g.primary * 64 ≤ g.primary * g.sector = mul-le-mul_left g.primary ok.least_sector in
-    omega (arith, leaves, size, rows)
+few_trailer_sectors g ok = grind arith
 
 pub few_sectors : (g : Geometry) → IsLayout g → greatest_sectors g ≤ 1024
 few_sectors g ok = let most = ok.few_sectors in omega (arith, most)
@@ -34,18 +30,11 @@ pub few_units : (g : Geometry) → IsLayout g → g.sector / g.unit ≤ 65536
 few_units g ok = few_parts (g.sector / g.unit) g.unit g.sector (parts_inside g.sector g.unit) (small_unit g ok).0 ok.greatest_sector
 
 pub few_pieces : (n p : ℕ) → n ≤ 1024 → p ≤ 65536 → 3 * n * (p + 2) ≤ 201332736
-few_pieces n p at_most small =
-    let rows : 3 * n * (p + 2) ≤ 3072 * (p + 2) = mul-le-mul_right (p + 2) (omega (arith, at_most)) in
-    omega (arith, rows, small)
+few_pieces n p at_most small = grind arith
 
 -- the writes of a size and of a magic
 few_writes : (u : ℕ) → (u ≡ 1) ⊎ (u ≡ 2) ⊎ (u ≡ 4) ⊎ (u ≡ 8) → 2 * div_ceil 4 u + 32 / u ≤ 40
-few_writes u is = elim is [
-  | inl one ↦ rw one (omega arith)
-  | inr (inl two) ↦ rw two (omega arith)
-  | inr (inr (inl four)) ↦ rw four (omega arith)
-  | inr (inr (inr eight)) ↦ rw eight (omega arith)
-]
+few_writes u is = grind arith
 
 pub few_operations : (c : Grain) (g : Geometry) → IsLayout g → most_operations c g ≤ 204000000
 few_operations grains.Call g ok = sum_of (trailer_sectors g) (3 * greatest_sectors g * (g.sector / g.chunk + 2)) (few_trailer_sectors g ok)

@@ -1,5 +1,5 @@
 -- What follows for valid images. Proved here, so that the crates above can cite it.
-use Rattle.std.specs.Prelude.{◌≡◌, ℕ, ◌≤◌, true, false, List, length, refl}
+use Rattle.std.specs.Prelude.{◌≡◌, ℕ, ◌≤◌, true, false, List, length}
 use Rattle.std.proofs.Common.{arith, ap, length-append}
 use Rattle.std.proofs.lemmas.Slice.Eq.{bytes_eq-Decides}
 use Rattle.sha2.specs.Sha256.{sha256}
@@ -21,8 +21,4 @@ good_true v g = (bytes_eq-Decides (digest_of v) (sha256 (covered_text v))).1 g
 
 pub good_false : (v : Image) → (IsGood v → ⊥) → is_good v ≡ false
 unfolding is_good
-good_false v h =
-    elim (is_good v) as (λ t. is_good v ≡ t → t ≡ false) [
-      | true ↦ λ e. absurd (h (test_good v e))
-      | false ↦ λ e. refl
-    ] refl
+good_false v h = grind (arith, test_good)

@@ -1,7 +1,7 @@
 -- The text of a schedule, for a reader that goes cut by cut.
-use Rattle.std.specs.Prelude.{◌≡◌, ℕ, ◌<◌, ◌≤◌, ◌^◌, List, [], ◌∷◌, ◌++◌, length, flat_map, bytes_eq, codes, decimal, true, false, All, Result, Ok}
+use Rattle.std.specs.Prelude.{◌≡◌, ℕ, ◌<◌, ◌≤◌, ◌^◌, List, [], ◌∷◌, ◌++◌, length, flat_map, bytes_eq, codes, decimal, false, All, Result, Ok}
 use Rattle.std.specs.Str.Parse.{ParsesUnsigned}
-use Rattle.std.proofs.Common.{arith, sym, ap, subst, ◌∙◌, length-append}
+use Rattle.std.proofs.Common.{arith, subst, length-append}
 use Rattle.std.proofs.lemmas.Fmt.{parse-decimal, decimal_injective}
 use Rattle.std.proofs.lemmas.Slice.Eq.{bytes_eq-Decides}
 use Rattle.std.proofs.Math.Seq.{drop-append_seam}
@@ -16,10 +16,7 @@ read_back n text r small is parses = parse-decimal 32 n text r small (omega (ari
 
 -- Which is written again as that text.
 pub other_text : {E : Type 0} {n m : ℕ} {text again : List ℕ} {r : Result ℕ E} → r ≡ Ok n → r ≡ Ok m → text ≡ decimal n → again ≡ decimal m → false ≡ bytes_eq again text → ⊥
-other_text {n = n} {m = m} {text = text} {again = again} read is given written other =
-    let same : m ≡ n = cc in
-    let no : false ≡ true = other ∙ (bytes_eq-Decides again text).1 (written ∙ ap decimal same ∙ sym given) in
-    absurd cc
+other_text {n = n} {m = m} {text = text} {again = again} read is given written other = grind (arith, bytes_eq-Decides)
 
 abbrev pub points : List ℕ → List ℕ
 points cs = flat_map (λ d. codes "." ++ decimal d) cs

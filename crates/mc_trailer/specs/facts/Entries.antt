@@ -98,8 +98,7 @@ highest_is g s = go (highest_entry g s) refl
 
 -- A highest entry is the computed one.
 pub highest_one : (g : Geometry) (s : Content) (o : Option ℕ) → IsHighest g s o → highest_entry g s ≡ o
-highest_one g s None is = none_passes (is_written g s) (3 * g.max_sectors) (λ d below. not_written g s d (λ written. is d (record { below = below; written = written })))
-highest_one g s (Some e) is = highest_at g s e is.0 (λ d over below. not_written g s d (λ written. let most = is.1 d (record { below = below; written = written }) in omega (arith, over)))
+highest_one g s it is = grind (arith, none_passes, not_written, highest_at)
 
 -- An entry that begins with another byte than 0xff is written, and one of bytes 0xff is not.
 pub written_entry : (g : Geometry) (s : Content) (e value : ℕ) → IsLayout g → IsSized g s → e < 3 * g.max_sectors → value ≢ 255 → byte s Primary (entry_place g e) ≡ value → IsWritten g s e
@@ -126,15 +125,11 @@ blank_entry g s e ok sized below each = ap not (blank_range s.primary (entry_pla
 -- A blank entry can be written.
 pub entry_write : (g : Geometry) (s : Content) (e value : ℕ) → IsLayout g → IsSized g s → e < 3 * g.max_sectors → ((i : ℕ) → i < g.unit → byte s Primary (entry_place g e + i) ≡ 255)
     → (t : Content) × (apply g (ops.Program Primary (entry_place g e) (one_unit g value)) s ≡ Some t) × Changed s t Primary (entry_place g e) (one_unit g value)
-entry_write g s e value ok sized below blank =
-    let len = one_unit_len g value ok in
-    program_changes g s Primary (entry_place g e) (one_unit g value) (omega (arith, len, entry_ends g e ok below, sized.primary)) (λ i within. blank i (omega (arith, within, len)))
+entry_write g s e value ok sized below blank = grind (arith, one_unit_len, program_changes, entry_ends)
 
 -- An entry that was written as 1 is written.
 pub entry_is_written : (g : Geometry) (s t : Content) (e : ℕ) → IsLayout g → IsSized g t → e < 3 * g.max_sectors → Changed s t Primary (entry_place g e) (one_unit g 1) → IsWritten g t e
-entry_is_written g s t e ok sized below ch =
-    written_entry g t e 1 ok sized below (λ same. absurd (omega (arith, same)))
-    (ap (byte t Primary) (sym (add-zero (entry_place g e))) ∙ ch.inside 0 (omega arith))
+entry_is_written g s t e ok sized below ch = grind (arith, written_entry, add-zero)
 
 -- An entry holds the same bytes in two contents; then it is written in both or in none.
 abbrev pub SameEntry : Geometry → Content → Content → ℕ → Type 0
@@ -157,8 +152,7 @@ same_entry g s t e ok sized_s sized_t below same = ap (λ (xs : List ℕ). not (
 
 -- A write that does not touch an entry keeps it: in the primary, at another entry, and in the secondary.
 pub entry_kept : (g : Geometry) (s t : Content) (at : ℕ) (new : List ℕ) (e : ℕ) → Changed s t Primary at new → (at + length new ≤ entry_place g e) ⊎ (entry_place g e + g.unit ≤ at) → SameEntry g s t e
-entry_kept g s t at new e ch (inl beyond) i within = ch.beyond (entry_place g e + i) (omega (arith, beyond))
-entry_kept g s t at new e ch (inr before) i within = ch.before (entry_place g e + i) (omega (arith, before, within))
+entry_kept g s t at new e ch it i within = grind arith
 
 pub entry_kept_beside : (g : Geometry) (s t : Content) (d e value : ℕ) → IsLayout g → d < 3 * g.max_sectors → e < 3 * g.max_sectors → d ≢ e → Changed s t Primary (entry_place g d) (one_unit g value)
     → SameEntry g s t e
@@ -178,9 +172,4 @@ pub highest_none : (g : Geometry) (s : Content) → ((d : ℕ) → d < 3 * g.max
 highest_none g s free = none_passes (is_written g s) (3 * g.max_sectors) free
 
 pub highest_after : WritesHighest
-highest_after g s t e ok sized below above ch =
-    let after : IsSized g t = changed_sized g s t Primary (entry_place g e) (one_unit g 1) ch sized in
-    highest_at g t e (entry_is_written g s t e ok after below ch)
-    (λ d over under.
-    same_entry g s t d ok sized after under (entry_kept_beside g s t e d 1 ok below under (λ same. absurd (omega (arith, same, over))) ch)
-    ∙ above d over under)
+highest_after g s t e ok sized below above ch = grind (arith, changed_sized, highest_at, entry_is_written, same_entry, entry_kept_beside)

@@ -57,8 +57,7 @@ field_prefix g s slot f xs rest is i short within = is i (omega (arith, short, l
 -- A write that does not touch a field keeps it: in the same slot, in the other, and at another field.
 pub field_kept : (g : Geometry) (s t : Content) (slot : Slot) (at : ℕ) (new : List ℕ) (f : Field) → Changed s t slot at new → (at + length new ≤ place g slot f) ⊎ (place g slot f + room f ≤ at)
     → SameField g s t slot f
-field_kept g s t slot at new f ch (inl beyond) i within = ch.beyond (place g slot f + i) (omega (arith, beyond))
-field_kept g s t slot at new f ch (inr before) i within = ch.before (place g slot f + i) (omega (arith, before, within))
+field_kept g s t slot at new f ch it i within = grind arith
 
 pub field_kept_elsewhere : (g : Geometry) (s t : Content) (slot o : Slot) (at : ℕ) (new : List ℕ) (f : Field) → Changed s t slot at new → o ≢ slot → SameField g s t o f
 field_kept_elsewhere g s t slot o at new f ch other i within = ch.other o (place g o f + i) other
@@ -122,19 +121,12 @@ write_field g s t slot v f new ok short are ch e = elim (same_or_apart e f) [
 -- A blank field can be written.
 pub field_write : (g : Geometry) (s : Content) (slot : Slot) (f : Field) (new : List ℕ) → IsLayout g → IsSized g s → FieldIs g s slot f (replicate (room f) 255) → length new ≤ room f
     → (t : Content) × (apply g (ops.Program slot (place g slot f) new) s ≡ Some t) × Changed s t slot (place g slot f) new
-field_write g s slot f new ok sized blank short =
-    program_changes g s slot (place g slot f) new (omega (arith, short, field_ends g slot f ok, sized_is g s slot sized)) (λ i within. blank_byte g s slot f i blank (omega (arith, within, short)))
+field_write g s slot f new ok sized blank short = grind (arith, program_changes, field_ends, sized_is, blank_byte)
 
 -- The bytes that are read of a field, and its first.
 pub field_bytes : (g : Geometry) (s : Content) (slot : Slot) (f : Field) (n : ℕ) (xs : List ℕ) → IsLayout g → IsSized g s → length xs ≡ n → n ≤ room f → FieldIs g s slot f xs
     → bytes_at s slot (place g slot f) n ≡ xs
-field_bytes g s slot f n xs ok sized len within is =
-    let fits : place g slot f + n ≤ length (bytes_of s slot) = omega (arith, field_ends g slot f ok, sized_is g s slot sized) in
-    let long : length (bytes_at s slot (place g slot f) n) ≡ n = length-between (bytes_of s slot) (place g slot f) (place g slot f + n) fits ∙ omega arith in
-    same_number_lists (bytes_at s slot (place g slot f) n) xs (long ∙ sym len)
-    (λ i below.
-    let short : i < n = omega (arith, below, long) in
-    get_or-between (bytes_of s slot) (place g slot f) (place g slot f + n) i 0 (omega (arith, short)) ∙ is i (omega (arith, short, len)) (omega (arith, short, within)))
+field_bytes g s slot f n xs ok sized len within is = grind (arith, field_ends, sized_is, length-between, same_number_lists, get_or-between)
 
 pub field_byte : (g : Geometry) (s : Content) (slot : Slot) (f : Field) (value : ℕ) (rest : List ℕ) → FieldIs g s slot f (value ∷ rest) → byte s slot (place g slot f) ≡ value
 field_byte g s slot f value rest is = ap (byte s slot) (sym (add-zero (place g slot f))) ∙ is 0 (omega arith) (omega (arith, room_is f))
@@ -216,8 +208,7 @@ kept_bytes g s t slot f n ok sized_s sized_t within same =
     (λ i short inside. same i inside ∙ sym (get_or-between (bytes_of s slot) (place g slot f) (place g slot f + n) i 0 (omega (arith, short, long))))
 
 kept_byte : (g : Geometry) (s t : Content) (slot : Slot) (f : Field) → SameField g s t slot f → byte t slot (place g slot f) ≡ byte s slot (place g slot f)
-kept_byte g s t slot f same =
-    ap (byte t slot) (sym (add-zero (place g slot f))) ∙ same 0 (omega (arith, room_is f)) ∙ ap (byte s slot) (add-zero (place g slot f))
+kept_byte g s t slot f same = grind (arith, add-zero, room_is)
 
 pub same_magic : (g : Geometry) (s t : Content) (slot : Slot) → IsLayout g → IsSized g s → IsSized g t → SameField g s t slot field.Magic → (trailer_of g t slot).magic ≡ (trailer_of g s slot).magic
 unfolding trailer_of
@@ -259,14 +250,11 @@ same_reading g s t slot field.SwapSize ok sized_s sized_t same = same_size g s t
 -- A write before the fields keeps the slot's trailer, and a write anywhere that of the other slot.
 pub trailer_kept : (g : Geometry) (s t : Content) (slot : Slot) (at : ℕ) (new : List ℕ) → IsLayout g → IsSized g s → Changed s t slot at new → at + length new + 48 ≤ size_of g slot
     → trailer_of g t slot ≡ trailer_of g s slot
-trailer_kept g s t slot at new ok sized ch before =
-    same_trailer g s t slot ok sized (changed_sized g s t slot at new ch sized)
-    (λ f. field_kept g s t slot at new f ch (inl (omega (arith, before, place_inside g slot f ok, most_before_end f))))
+trailer_kept g s t slot at new ok sized ch before = grind (arith, same_trailer, changed_sized, field_kept, place_inside, most_before_end)
 
 pub trailer_kept_elsewhere : (g : Geometry) (s t : Content) (slot o : Slot) (at : ℕ) (new : List ℕ) → IsLayout g → IsSized g s → Changed s t slot at new → o ≢ slot
     → trailer_of g t o ≡ trailer_of g s o
-trailer_kept_elsewhere g s t slot o at new ok sized ch other =
-    same_trailer g s t o ok sized (changed_sized g s t slot at new ch sized) (λ f. field_kept_elsewhere g s t slot o at new f ch other)
+trailer_kept_elsewhere g s t slot o at new ok sized ch other = grind (arith, same_trailer, changed_sized, field_kept_elsewhere)
 
 pub reads_back : ReadsBack
 reads_back g s t slot ok sized =
@@ -281,8 +269,4 @@ reads_back g s t slot ok sized =
     )
 
 pub writes_keep : WritesKeep
-writes_keep g s t slot at new ok sized ch = (
-  λ o other. trailer_kept_elsewhere g s t slot o at new ok sized ch other,
-  λ f apart. same_reading g s t slot f ok sized (changed_sized g s t slot at new ch sized) (field_kept g s t slot at new f ch apart),
-  λ before. trailer_kept g s t slot at new ok sized ch before,
-)
+writes_keep g s t slot at new ok sized ch = grind (arith, trailer_kept_elsewhere, same_reading, changed_sized, field_kept, trailer_kept)

@@ -1,7 +1,7 @@
 -- What follows for the places: the fields and the status entries lie in the slot, at whole units, after the data sectors,
 -- and apart from one another. Proved here, so that the crates above can cite it.
 use Rattle.std.specs.Prelude.{◌≡◌, ◌≢◌, ◌⊎◌, ℕ, ◌+◌, ◌-◌, ◌*◌, ◌%◌, ◌<◌, ◌≤◌, ◌==◌, if◌then◌else◌, length, refl}
-use Rattle.std.proofs.Common.{arith, sym, ap, ◌∙◌, inl, inr}
+use Rattle.std.proofs.Common.{arith, ap, ◌∙◌, inl, inr}
 use Rattle.std.proofs.lemmas.Bool.{cases_order}
 use Rattle.std.proofs.lemmas.List.{length-replicate}
 use Rattle.std.proofs.Math.Nat.{mul-le-mul_right, mod_self}
@@ -15,11 +15,7 @@ use Rattle.mc_trailer.specs.declared.places.Field.{Field}
 use Rattle.mc_trailer.specs.declared.places.Field.TheVariants as field
 
 pub room_is : (f : Field) → ((before_end f ≡ 16) × (room f ≡ 16)) ⊎ ((24 ≤ before_end f) × (room f ≡ 8))
-room_is field.Magic = inl (refl, refl)
-room_is field.ImageOk = inr (omega arith, refl)
-room_is field.CopyDone = inr (omega arith, refl)
-room_is field.SwapInfo = inr (omega arith, refl)
-room_is field.SwapSize = inr (omega arith, refl)
+room_is it = grind arith
 
 -- Each field begins a number of eights before the end.
 eights : (f : Field) → (n : ℕ) × (before_end f ≡ n * 8) × (2 ≤ n) × (n ≤ 6)
@@ -43,22 +39,11 @@ field_at n =
 
 found_at : (f : Field) → field_at (before_end f) ≡ f
 unfolding field_at
-found_at field.Magic = refl
-found_at field.ImageOk = refl
-found_at field.CopyDone = refl
-found_at field.SwapInfo = refl
-found_at field.SwapSize = refl
+found_at it = grind arith
 
 -- Two fields are one, or the room of one ends before the other.
 pub same_or_apart : (e f : Field) → (e ≡ f) ⊎ ((before_end f + room e ≤ before_end e) ⊎ (before_end e + room f ≤ before_end f))
-same_or_apart e f =
-    let m = eights e in
-    let n = eights f in
-    elim (cases_order (before_end e) (before_end f)) [
-      | inl same ↦ inl (sym (found_at e) ∙ ap field_at same ∙ found_at f)
-      | inr (inl beyond) ↦ inr (inr (omega (arith, beyond, m.1, m.2, n.1, room_is f)))
-      | inr (inr prefix) ↦ inr (inl (omega (arith, prefix, m.1, n.1, n.2, room_is e)))
-    ]
+same_or_apart e f = grind (arith, eights, cases_order, found_at, field_at, room_is)
 
 pub place_inside : (g : Geometry) (slot : Slot) (f : Field) → IsLayout g → place g slot f + before_end f ≡ size_of g slot
 place_inside g slot f ok = let inside = trailer_inside g slot ok in let most = most_before_end f in omega arith
@@ -67,37 +52,21 @@ pub field_ends : (g : Geometry) (slot : Slot) (f : Field) → IsLayout g → pla
 field_ends g slot f ok = omega (arith, place_inside g slot f ok, room_is f)
 
 pub fields_apart : (g : Geometry) (slot : Slot) (e f : Field) → IsLayout g → e ≢ f → (place g slot e + room e ≤ place g slot f) ⊎ (place g slot f + room f ≤ place g slot e)
-fields_apart g slot e f ok other = elim (same_or_apart e f) [
-  | inl same ↦ absurd (other same)
-  | inr (inl beyond) ↦ inl (omega (arith, beyond, place_inside g slot e ok, place_inside g slot f ok))
-  | inr (inr prefix) ↦ inr (omega (arith, prefix, place_inside g slot e ok, place_inside g slot f ok))
-]
+fields_apart g slot e f ok other = grind (arith, same_or_apart, place_inside)
 
 -- entry e begins e units after the first
 pub entry_inside : (g : Geometry) (e : ℕ) → IsLayout g → e < 3 * g.max_sectors → entry_place g e + (48 + 3 * g.max_sectors * g.unit) ≡ size_of g Primary + e * g.unit
-entry_inside g e ok below =
-    let inside = trailer_inside g Primary ok in
-    let at_most : e * g.unit ≤ 3 * g.max_sectors * g.unit = mul-le-mul_right g.unit (omega arith) in
-    omega arith
+entry_inside g e ok below = grind (arith, trailer_inside, mul-le-mul_right)
 
 pub entry_ends : (g : Geometry) (e : ℕ) → IsLayout g → e < 3 * g.max_sectors → entry_place g e + g.unit + 48 ≤ size_of g Primary
-entry_ends g e ok below =
-    let inside = entry_inside g e ok below in
-    let at_most : (e + 1) * g.unit ≤ 3 * g.max_sectors * g.unit = mul-le-mul_right g.unit (omega arith) in
-    omega arith
+entry_ends g e ok below = grind (arith, entry_inside, mul-le-mul_right)
 
 -- So many entries from one on lie in the slot, and each is a unit after the one before.
 pub group_inside : (g : Geometry) (first count : ℕ) → IsLayout g → 0 < count → first + count ≤ 3 * g.max_sectors → entry_place g first + count * g.unit + 48 ≤ size_of g Primary
-group_inside g first count ok some below =
-    let inside = entry_inside g first ok (omega (arith, some, below)) in
-    let at_most : (first + count) * g.unit ≤ 3 * g.max_sectors * g.unit = mul-le-mul_right g.unit below in
-    let sum : (first + count) * g.unit ≡ first * g.unit + count * g.unit = omega arith in
-    omega (arith, inside, at_most, sum)
+group_inside g first count ok some below = grind (arith, entry_inside, mul-le-mul_right)
 
 pub entry_beyond : (g : Geometry) (first k : ℕ) → IsLayout g → first + k < 3 * g.max_sectors → entry_place g (first + k) ≡ entry_place g first + k * g.unit
-entry_beyond g first k ok below =
-    let sum : (first + k) * g.unit ≡ first * g.unit + k * g.unit = omega arith in
-    omega (arith, entry_inside g first ok (omega (arith, below)), entry_inside g (first + k) ok below, sum)
+entry_beyond g first k ok below = grind (arith, entry_inside)
 
 pub entries_apart : (g : Geometry) (d e : ℕ) → IsLayout g → d < e → e < 3 * g.max_sectors → entry_place g d + g.unit ≤ entry_place g e
 entries_apart g d e ok before below =
@@ -115,9 +84,7 @@ field_beyond_data g slot f ok = from (data_end g slot) (data_before_trailer g sl
     from d before = omega (arith, before, place_inside g slot f ok, most_before_end f)
 
 pub place_aligned : (g : Geometry) (slot : Slot) (f : Field) → IsLayout g → place g slot f % g.unit ≡ 0
-place_aligned g slot f ok =
-    let n = eights f in
-    whole_sub g (size_of g slot) (before_end f) (whole_size g slot ok) (ap (λ k. k % g.unit) n.1 ∙ whole_eights g n.0 ok)
+place_aligned g slot f ok = grind (arith, eights, whole_sub, whole_size, whole_eights)
 
 pub entry_aligned : (g : Geometry) (e : ℕ) → IsLayout g → entry_place g e % g.unit ≡ 0
 entry_aligned g e ok =
@@ -153,12 +120,7 @@ size_bytes_fit g size ok = let small = small_unit g ok in omega (arith, size_byt
 
 -- These writes are whole units inside the slot.
 pub field_range : (g : Geometry) (slot : Slot) (f : Field) (n : ℕ) → IsLayout g → n ≤ room f → n % g.unit ≡ 0 → 0 < n → IsRange g slot (place g slot f) n
-field_range g slot f n ok short whole some = record {
-  inside = omega (arith, field_ends g slot f ok);
-  start = place_aligned g slot f ok;
-  units = whole;
-  some = some;
-}
+field_range g slot f n ok short whole some = grind (arith, field_ends, place_aligned, whole)
 
 pub flag_range : (g : Geometry) (slot : Slot) (f : Field) (value : ℕ) → IsLayout g → IsRange g slot (place g slot f) (length (one_unit g value))
 flag_range g slot f value ok = field_range g slot f (length (one_unit g value)) ok (one_unit_fits g value f ok) (one_unit_whole g value ok) (omega arith)
@@ -167,9 +129,4 @@ pub magic_range : (g : Geometry) (slot : Slot) → IsLayout g → IsRange g slot
 magic_range g slot ok = field_range g slot field.Magic 16 ok (omega arith) (whole_eights g 2 ok) (omega arith)
 
 pub entry_range : (g : Geometry) (e value : ℕ) → IsLayout g → e < 3 * g.max_sectors → IsRange g Primary (entry_place g e) (length (one_unit g value))
-entry_range g e value ok below = record {
-  inside = omega (arith, one_unit_len g value ok, entry_ends g e ok below);
-  start = entry_aligned g e ok;
-  units = one_unit_whole g value ok;
-  some = omega arith;
-}
+entry_range g e value ok below = grind (arith, one_unit_len, entry_ends, entry_aligned, one_unit_whole)

@@ -65,10 +65,7 @@ module _ {N : Type 0} (t : Tree N) where
 
   pub in_all : (k : ℕ) (s : N) (m : List ℕ) → Contains (all_from k s) m → IsMember t s k m
   unfolding all_from
-  in_all zero s m i = elim (head_or_rest [] m [] i) [
-    | inl e ↦ subst (IsMember t s 0) (sym e) (omega arith, tt)
-    | inr j ↦ absurd (no_element m j)
-  ]
+  in_all zero s m i = grind arith
   in_all (suc k) s m i =
       let f : ℕ → List (List ℕ) = λ x. all_from k (t.child s x) in
       elim (head_or_rest [] m (beginning f (t.width s)) i) [
@@ -91,9 +88,7 @@ module _ {N : Type 0} (t : Tree N) where
 
 beginning_alike : (f h : ℕ → List (List ℕ)) (n : ℕ) → ((x : ℕ) → f x ≡ h x) → beginning f n ≡ beginning h n
 unfolding beginning
-beginning_alike f h zero same = refl
-beginning_alike f h (suc n) same =
-    ap (λ (ls : List (List ℕ)). ls ++ map (λ l. n ∷ l) (f n)) (beginning_alike f h n same) ∙ ap (λ (ls : List (List ℕ)). beginning h n ++ map (λ l. n ∷ l) ls) (same n)
+beginning_alike f h it same = grind arith
 
 -- The paths from the end of a path, in the tree of paths.
 module _ {N : Type 0} (t : Tree N) (root : N) where

@@ -1,5 +1,5 @@
 -- The rows of pages that are continued one after another.
-use Rattle.std.specs.Prelude.{◌≡◌, ◌⊎◌, ℕ, zero, suc, ◌+◌, ◌<◌, ◌≤◌, Bool, true, false, List, [], ◌∷◌, ◌++◌, length, take, drop, All, refl}
+use Rattle.std.specs.Prelude.{◌≡◌, ◌⊎◌, ℕ, zero, suc, ◌+◌, ◌<◌, Bool, true, List, [], ◌∷◌, ◌++◌, length, take, drop, All, refl}
 use Rattle.std.proofs.Common.{inl, inr, arith, sym, ap, subst, ◌∙◌, append-nil}
 use Rattle.std.proofs.Math.Seq.{take-add}
 use Rattle.std.proofs.lemmas.List.{length-take, take-append-drop, take_all}
@@ -24,10 +24,7 @@ module _ {R : Type 0} where
   -- A page that is not full has all rows.
   short_page : (limit : ℕ) (whole page more rows : List R) (ended : Bool) → rows ≡ page ++ more → page ≡ take limit whole
       → length page < limit → more ≡ [] → JoinUp whole rows ended
-  short_page limit whole page more rows ended joined first short none =
-      let at_most : length whole ≤ limit = omega (arith, short, length-take limit whole, ap (λ (xs : List R). length xs) first) in
-      let all : rows ≡ whole = joined ∙ ap (λ (xs : List R). page ++ xs) none ∙ append-nil page ∙ first ∙ take_all limit whole at_most in
-      record { prefix = (limit, all ∙ sym (take_all limit whole at_most)); all = λ _. all }
+  short_page limit whole page more rows ended joined first short none = grind (arith, length-take, append-nil, take_all)
 
 -- The last of some rows is so from wherever one begins.
 pub last_same : {K R : Type 0} (key : R → K) (a b : K) (rows : List R) → 0 < length rows → last_key key a rows ≡ last_key key b rows
@@ -56,8 +53,7 @@ module _ {K R : Type 0} (Before : K → K → Type 0) (order : IsOrder Before) (
 
   pub pages_join : (limits : List ℕ) (position : Position K) (whole rows : List R) (ended : Bool) → All (λ n. 0 < n) limits
       → IsRest Before key IsRow position whole → Chain Before key no_key IsRow position limits ended rows → JoinUp whole rows ended
-  pages_join [] position whole rows ended some rest chain =
-      record { prefix = (0, chain.0); all = λ is. let no : true ≡ false = sym is ∙ chain.1 in absurd cc }
+  pages_join [] position whole rows ended some rest chain = grind arith
   pages_join (limit ∷ limits) position whole rows ended some rest (page, more, is_page, joined, on) =
       let first : page ≡ take limit whole = is_page.first ∙ ap (take limit) (one_rest Before order key IsRow position is_page.all whole is_page.rest rest) in
       by (pages_join limits (past_page page) (drop limit whole) more ended (All-tail (λ n. 0 < n) limit limits some)) on first

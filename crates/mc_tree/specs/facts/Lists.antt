@@ -1,5 +1,5 @@
 -- The elements of a list, and its pairs, by recursion.
-use Rattle.std.proofs.Common.{◌≡◌, zero, suc, ◌⊎◌, List, [], ◌∷◌, ◌++◌, map, inl, inr, refl, sym, subst, arith}
+use Rattle.std.proofs.Common.{◌≡◌, suc, ◌⊎◌, List, [], ◌∷◌, ◌++◌, map, inl, inr, refl, sym, subst, arith}
 use Rattle.std.specs.Prelude.{AllPairs, Contains}
 use Rattle.std.proofs.lemmas.List.Kept.{AllPairs-cons}
 use Rattle.std.proofs.lemmas.List.Elements.{All-weaker, All-contains_itself, Contains-append_cases}
@@ -15,8 +15,7 @@ module _ {X : Type 0} where
   in_rest x y xs c = (suc c.0, omega (arith, c.1), c.2)
 
   pub head_or_rest : (x y : X) (xs : List X) → Contains (x ∷ xs) y → (y ≡ x) ⊎ Contains xs y
-  head_or_rest x y xs (zero, lt, is) = inl (sym is)
-  head_or_rest x y xs (suc k, lt, is) = inr (k, omega (arith, lt), is)
+  head_or_rest x y xs it = grind arith
 
 module _ {X : Type 0} (P : X → X → Type 0) where
   pub no_pairs : AllPairs P []

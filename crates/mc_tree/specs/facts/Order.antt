@@ -1,7 +1,6 @@
 -- The order of paths, the next path, and what is past one.
 use Rattle.std.proofs.Common.{List, [], arith, inl, inr, length, length-append, refl, subst, suc, sym, take, zero, ℕ, ◌++◌, ◌+◌, ◌<◌, ◌∙◌, ◌∷◌, ◌≡◌, ◌≤◌, ◌⊎◌}
-use Rattle.std.proofs.lemmas.Bool.{cases_eq, cases_lt}
-use Rattle.mc_tree.specs.Tree.{After, Allowed, AtStart, Before, Beyond, IsMember, IsNext, IsOver, IsPastIn, Lost, PairsPrecede, Position, Precedes, PrecedesIn, Tree, landed}
+use Rattle.mc_tree.specs.Tree.{After, Allowed, Before, Beyond, IsMember, IsNext, IsOver, IsPastIn, PairsPrecede, Position, Precedes, PrecedesIn, Tree, landed}
 
 -- The order of lists is one, where that of their elements is.
 
@@ -19,11 +18,7 @@ module _ {K : Type 0} (Before : K → K → Type 0) (order : IsOrder Before) whe
   not_same x y e p = never_itself x (subst (Before x) (sym e) p)
 
   pub cases_of : (x y : K) → Before x y ⊎ (Before x y → ⊥)
-  cases_of x y = elim (order.total x y) [
-    | inl p ↦ inl p
-    | inr (inl e) ↦ inr (not_same x y e)
-    | inr (inr q) ↦ inr (λ p. order.asym x y p q)
-  ]
+  cases_of x y = grind arith
 
 module _ {X : Type 0} (Less : X → X → Type 0) (order : IsOrder Less) where
   lists_asym : (x y : List X) → PrecedesIn Less x y → PrecedesIn Less y x → ⊥
@@ -67,17 +62,7 @@ module _ {X : Type 0} (Less : X → X → Type 0) (order : IsOrder Less) where
 -- ---- numbers, and paths
 
 numbers_in_order : IsOrder (λ (x : ℕ) (y : ℕ). x < y)
-numbers_in_order = record {
-  asym = λ x y p q. omega (arith, p, q);
-  trans = λ x y z p q. omega (arith, p, q);
-  total = λ x y. elim (cases_lt x y) [
-    | inl lt ↦ inl lt
-    | inr le ↦ elim (cases_eq x y) [
-      | inl e ↦ inr (inl e)
-      | inr ne ↦ inr (inr (omega (arith, le, ne)))
-    ]
-  ];
-}
+numbers_in_order = grind arith
 
 pub paths_in_order : IsOrder Precedes
 paths_in_order = lists_in_order (λ (x : ℕ) (y : ℕ). x < y) numbers_in_order
@@ -85,27 +70,13 @@ paths_in_order = lists_in_order (λ (x : ℕ) (y : ℕ). x < y) numbers_in_order
 -- ---- pairs, and their lists
 
 before_asym : (x y : ℕ × ℕ) → Before x y → Before y x → ⊥
-before_asym x y (inl p) (inl q) = omega (arith, p, q)
-before_asym x y (inl p) (inr q) = omega (arith, p, q.0)
-before_asym x y (inr p) (inl q) = omega (arith, p.0, q)
-before_asym x y (inr p) (inr q) = omega (arith, p.1, q.1)
+before_asym x y it one = grind arith
 
 before_trans : (x y z : ℕ × ℕ) → Before x y → Before y z → Before x z
-before_trans x y z (inl p) (inl q) = inl (omega (arith, p, q))
-before_trans x y z (inl p) (inr q) = inl (omega (arith, p, q.0))
-before_trans x y z (inr p) (inl q) = inl (omega (arith, p.0, q))
-before_trans x y z (inr p) (inr q) = inr (p.0 ∙ q.0, omega (arith, p.1, q.1))
+before_trans x y z it one = grind arith
 
 before_total : (x y : ℕ × ℕ) → Before x y ⊎ (x ≡ y) ⊎ Before y x
-before_total (round, index) (round', index') = elim (numbers_in_order.total round round') [
-  | inl p ↦ inl (inl p)
-  | inr (inl e) ↦ elim (numbers_in_order.total index index') [
-    | inl p ↦ inl (inr (e, p))
-    | inr (inl f) ↦ inr (inl cc)
-    | inr (inr p) ↦ inr (inr (inr (sym e, p)))
-  ]
-  | inr (inr p) ↦ inr (inr (inl p))
-]
+before_total (round, index) (round', index') = grind arith
 
 pub pairs_in_order : IsOrder PairsPrecede
 pairs_in_order = lists_in_order Before (record { asym = before_asym; trans = before_trans; total = before_total })
@@ -245,8 +216,7 @@ module _ {N : Type 0} (t : Tree N) where
 
   -- Where there is no first child there is none.
   pub childless : (s : N) (bound : ℕ) (l : List ℕ) → (IsMember t s bound (l ++ 0 ∷ []) → ⊥) → HasNoChild s bound l
-  childless s bound l none number m =
-      none (omega (arith, m.0, length-append l (number ∷ []), length-append l (0 ∷ [])), allowed-push s l 0 (allowed_before s l (number ∷ []) m.1) (omega (arith, allowed-last s l number m.1)))
+  childless s bound l none number m = grind (arith, length-append, allowed-push, allowed_before, allowed-last)
 
   -- ---- both
 
@@ -264,11 +234,7 @@ module _ {N : Type 0} (t : Tree N) where
       ]
 
   beyond_childless : (s : N) (bound : ℕ) (l m : List ℕ) → HasNoChild s bound l → IsMember t s bound m → Precedes l m → Beyond l m
-  beyond_childless s bound l m none mem p =
-      elim (on_or_beyond s l m mem.1 p) [
-        | inl q ↦ absurd (none q.0 (omega (arith, q.2, mem.0, length-append l (q.0 ∷ [])), q.1))
-        | inr b ↦ b
-      ]
+  beyond_childless s bound l m none mem p = grind (arith, on_or_beyond, length-append)
 
   pub next_above : (s : N) (bound : ℕ) (l next : List ℕ) → length l ≤ bound → HasNoChild s bound l → IsNextBeyond s l next → IsNext (IsMember t s bound) (After l) next
   next_above s bound l next at_most none n = record {
@@ -351,6 +317,4 @@ module _ {N : Type 0} (t : Tree N) (s : N) (l : List ℕ) where
 -- What is past a position, and what is next there.
 
 pub past_on : {K : Type 0} (Before : K → K → Type 0) → IsOrder Before → (p : Position K) (l m : K) → IsPastIn Before p l → Before l m → IsPastIn Before p m
-past_on Before order AtStart l m p q = tt
-past_on Before order (After last) l m p q = order.trans last l m p q
-past_on Before order Lost l m p q = p
+past_on it order one l m p q = grind arith

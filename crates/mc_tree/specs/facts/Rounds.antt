@@ -7,17 +7,9 @@ use Rattle.mc_tree.specs.facts.Order.{not_same, paths_in_order, pairs_in_order}
 
 -- ---- the order
 
-by_tests : (w i j : ℕ) (b c : Bool) → nat_lt i w ≡ b → nat_lt j w ≡ c → i < j
-    → Before (if b then (1, i) else (2, i - w)) (if c then (1, j) else (2, j - w))
-by_tests w i j true true p q lt = inr (refl, lt)
-by_tests w i j true false p q lt = inl (omega arith)
-by_tests w i j false true p q lt = absurd (grind (arith, nat_tests))
-by_tests w i j false false p q lt = inr (refl, grind (arith, nat_tests))
-
 -- What a test of a child's number says.
 test_is : (w i : ℕ) (b : Bool) → nat_lt i w ≡ b → (i < w → b ≡ true) × (w ≤ i → b ≡ false)
-test_is w i true e = (λ lt. refl, λ le. absurd (grind (arith, nat_tests)))
-test_is w i false e = (λ lt. absurd (grind (arith, nat_tests)), λ le. refl)
+test_is w i it e = grind arith
 
 pub inside : (w i : ℕ) → i < w → nat_lt i w ≡ true
 inside w i lt = (test_is w i (nat_lt i w) refl).0 lt
@@ -27,8 +19,7 @@ outside w i le = (test_is w i (nat_lt i w) refl).1 le
 
 module _ {N : Type 0} (t : Tree N) (next : N → N) where
   label_before : (p : RoundNode N) (i j : ℕ) → i < j → Before (label t next p i) (label t next p j)
-  label_before (round_one s) i j lt = by_tests (t.width s) i j (nat_lt i (t.width s)) (nat_lt j (t.width s)) refl refl lt
-  label_before (round_two began s) i j lt = inr (refl, lt)
+  label_before it i j lt = grind arith
 
   -- The order of paths is that of their pairs.
   pub pairs_precede : (p : RoundNode N) (l m : List ℕ) → Precedes l m → PairsPrecede (labels t next p l) (labels t next p m)
@@ -41,11 +32,7 @@ module _ {N : Type 0} (t : Tree N) (next : N → N) where
       inr (ap (label t next p) h.0, subst (PairsPrecede (labels t next (two_rounds_child t next p x) xs)) same (pairs_precede (two_rounds_child t next p x) xs ys h.1))
 
   pub paths_precede : (p : RoundNode N) (l m : List ℕ) → PairsPrecede (labels t next p l) (labels t next p m) → Precedes l m
-  paths_precede p l m h = elim (paths_in_order.total l m) [
-    | inl before ↦ before
-    | inr (inl same) ↦ absurd (not_same PairsPrecede pairs_in_order (labels t next p l) (labels t next p m) (ap (labels t next p) same) h)
-    | inr (inr after) ↦ absurd (pairs_in_order.asym (labels t next p l) (labels t next p m) h (pairs_precede p m l after))
-  ]
+  paths_precede p l m h = grind (arith, paths_in_order, not_same, pairs_in_order, pairs_precede)
 
   -- ---- a child of a node of the first round
 
@@ -89,19 +76,14 @@ module _ {N : Type 0} (t : Tree N) (next : N → N) where
   -- It is one of the tree, where each of the two is, from where its round begins.
   pub both_allowed : (s : N) (path later : List ℕ) → Allowed t s path → Allowed t (next (landed t s path)) later → Allowed (two_rounds t next) (round_one s) (in_both t next s path later)
   both_allowed s [] [] a b = tt
-  both_allowed s [] (j ∷ later) a b =
-      let rest = later_allowed s (t.child (next s) j) later b.1 in
-      (omega (arith, b.0), subst (λ p. Allowed (two_rounds t next) p later) (sym (child_beyond s j)) rest)
+  both_allowed s [] (j ∷ later) a b = grind (arith, later_allowed, child_beyond)
   both_allowed s (i ∷ path) later a b =
       let rest = both_allowed (t.child s i) path later a.1 b in
       (omega (arith, a.0), subst (λ p. Allowed (two_rounds t next) p (in_both t next (t.child s i) path later)) (sym (child_first s i a.0)) rest)
 
   pub both_labels : (s : N) (path later : List ℕ) → Allowed t s path → labels t next (round_one s) (in_both t next s path later) ≡ pairs path later
   both_labels s [] [] a = refl
-  both_labels s [] (j ∷ later) a =
-      ap (λ (z : ℕ × ℕ). z ∷ labels t next (two_rounds_child t next (round_one s) (t.width s + j)) later) (label_second s (t.width s + j) (omega arith) ∙ ap (λ (n : ℕ). (2, n)) (offset (t.width s) j))
-      ∙ ap (λ p. (2, j) ∷ labels t next p later) (child_beyond s j)
-      ∙ ap (λ (z : List (ℕ × ℕ)). (2, j) ∷ z) (later_labels s (t.child (next s) j) later)
+  both_labels s [] (j ∷ later) a = grind (arith, label_second, offset, child_beyond, later_labels)
   both_labels s (i ∷ path) later a =
       ap (λ (z : ℕ × ℕ). z ∷ labels t next (two_rounds_child t next (round_one s) i) (in_both t next (t.child s i) path later)) (label_first s i a.0)
       ∙ ap (λ p. (1, i) ∷ labels t next p (in_both t next (t.child s i) path later)) (child_first s i a.0)

@@ -15,9 +15,7 @@ module _ {M : Type 0} (w : Weighing M) (is : IsWeighing w) where
 
   -- The numbers up to one, and that one.
   pub from_more : (f : ℕ → M) (n i : ℕ) → from w f (suc n) i ≡ w.merged (from w f n i) (w.prefixed (i + n) (f (i + n)))
-  from_more f zero i =
-      let at : ℕ → M = λ x. w.prefixed x (f x) in
-      is.right (at i) ∙ ap at (omega arith) ∙ sym (is.left (at (i + 0)))
+  from_more f zero i = grind arith
   from_more f (suc n) i =
       let at : ℕ → M = λ x. w.prefixed x (f x) in
       ap (w.merged (at i)) (from_more f n (i + 1))
@@ -26,9 +24,7 @@ module _ {M : Type 0} (w : Weighing M) (is : IsWeighing w) where
 
   -- The numbers in two parts.
   pub from_parts : (f : ℕ → M) (n m i : ℕ) → from w f (n + m) i ≡ w.merged (from w f n i) (from w f m (i + n))
-  from_parts f zero m i =
-      let same : i ≡ i + 0 = omega arith in
-      ap (λ k. from w f k i) (omega arith) ∙ ap (from w f m) same ∙ sym (is.left (from w f m (i + 0)))
+  from_parts f zero m i = grind arith
   from_parts f (suc n) m i =
       let at : M = w.prefixed i (f i) in
       let count : suc n + m ≡ suc (n + m) = omega arith in

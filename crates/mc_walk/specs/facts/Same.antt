@@ -1,6 +1,6 @@
 -- The paths of the same walk, elsewhere.
 use Rattle.std.proofs.Common.{List, ℕ, sym, subst}
-use Rattle.mc_tree.specs.Tree.{IsMember, Position, IsOver}
+use Rattle.mc_tree.specs.Tree.{IsMember}
 use Rattle.mc_walk.specs.TreeModel.{TreeModel}
 use Rattle.mc_walk.specs.Walks.{Walked, IsPath, IsSame, origin_of}
 
@@ -13,7 +13,3 @@ module _ {N A T B : Type 0} (model : B → TreeModel N A T) where
       let bound = subst (λ n. IsMember (model new.flash_tree).tree ((model new.flash_tree).root (origin_of new.seen)) n l) s.bound m in
       let origin = subst (λ c. IsMember (model new.flash_tree).tree ((model new.flash_tree).root c) old.bound l) s.origin bound in
       subst (λ b. IsMember (model b).tree ((model b).root (origin_of old.seen)) old.bound l) s.flash_tree origin
-
-  -- Where none of them is past a position.
-  pub over_there : (old new : Walked B) (position : Position (List ℕ)) → IsSame old new → IsOver (IsPath (model old.flash_tree) old) position → IsOver (IsPath (model new.flash_tree) new) position
-  over_there old new position s over = λ l listed past. over l (path_back old new l s listed) past

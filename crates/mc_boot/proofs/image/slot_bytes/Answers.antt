@@ -1,4 +1,4 @@
-use Rattle.std.proofs.Common.{◌≡◌, ◌^◌, ◌≤◌, ℕ, List, take, length, arith, ◌∙◌}
+use Rattle.std.proofs.Common.{◌≡◌, ◌^◌, ◌≤◌, ℕ, List, take, length, arith}
 use Rattle.std.proofs.lemmas.List.{length-take, take_all}
 use Rattle.mc_flash.specs.Flash.{size_of}
 use Rattle.mc_flash.specs.Geometry.{Geometry, IsLayout}
@@ -14,6 +14,4 @@ at_most : (l : Geometry) (slot : Slot) (xs : List ℕ) (n : ℕ) → IsLayout l 
 at_most l slot xs n ok is = let small = slot_small l slot ok in omega (arith, length-take n xs, is, small)
 
 pub returns-clause-value : goal.returns-clause-value
-returns-clause-value g c =
-    all (g.F.Flash.seen c.args.flash.now).geometry c.layout.result.now c.args.slot c.read.result.now c.size-size.result c.layout.ensures c.size-size.ensures.value c.read.ensures.len
-    ∙ c.read.ensures.value
+returns-clause-value g c = grind (arith, all)

@@ -3,6 +3,4 @@ use Rattle.mc_image.specs.facts.Valid.{prefix_within}
 use Rattle.mc_boot.proofs.image.view_size.Goals as goal
 
 pub overflow_cast-result : goal.overflow_cast-result
-overflow_cast-result c =
-    let short = prefix_within c.args.bytes.now c.args.view.now c.requires.begins in
-    omega (arith, short, c.requires.at_most, c.size.ensures)
+overflow_cast-result c = grind (arith, prefix_within)

@@ -1,5 +1,5 @@
 use Rattle.std.proofs.Common.{◌≡◌, ℕ, ◌+◌, ◌*◌, ◌≤◌, Fits, w32, refl, arith}
-use Rattle.std.proofs.lemmas.Bool.{eq-eqb, ne_eqb}
+use Rattle.std.proofs.lemmas.Bool.{eq-eqb}
 use Rattle.mc_flash.specs.Geometry.{Geometry, IsLayout, trailer_sectors}
 use Rattle.mc_flash.specs.facts.Usage.{few_sectors}
 use Rattle.mc_boot.proofs.Plans.{few_counted, thrice}
@@ -27,12 +27,10 @@ pub returns-then-first-course-clause-count : goal.returns-then-first-course-clau
 returns-then-first-course-clause-count c = rw (c.in-Resumed.is, eq-eqb c.in-Resumed.first (3 * c.args.course.now.sectors) c.if-first-course.true) refl
 
 pub returns-then-erases-clause-count : goal.returns-then-erases-clause-count
-returns-then-erases-clause-count c =
-    rw (c.in-Resumed.is, ne_eqb c.in-Resumed.first (3 * c.args.course.now.sectors) c.if-first-course.false, c.if-erases.true, c.trailer_sectors-count.ensures.value) refl
+returns-then-erases-clause-count c = grind arith
 
 pub returns-then-erases-clause-at_most : goal.returns-then-erases-clause-at_most
 returns-then-erases-clause-at_most c = (all c.args.course.now.layout c.trailer_sectors-count.result c.trailer_sectors-count.ensures.value c.trailer_sectors-count.ensures.valid).1
 
 pub returns-else-erases-clause-count : goal.returns-else-erases-clause-count
-returns-else-erases-clause-count c =
-    rw (c.in-Resumed.is, ne_eqb c.in-Resumed.first (3 * c.args.course.now.sectors) c.if-first-course.false, c.if-erases.false) refl
+returns-else-erases-clause-count c = grind arith

@@ -1,4 +1,4 @@
-use Rattle.std.proofs.Common.{◌≡◌, ◌+◌, ◌*◌, ◌≤◌, ℕ, Fits, w64, sym, arith, ◌∙◌}
+use Rattle.std.proofs.Common.{◌≡◌, ◌+◌, ◌*◌, ◌≤◌, ℕ, Fits, w64, arith}
 use Rattle.mc_flash.specs.Flash.{CanTry, size_of}
 use Rattle.mc_flash.specs.Geometry.{Geometry, IsLayout, in_pieces}
 use Rattle.mc_flash.specs.declared.op.Op.{Op}
@@ -19,22 +19,13 @@ module _ (a : Course) (g l : Geometry) (op : Op) (slot : Slot) (sector size : �
       rw (is, same) (omega (arith, inside, small), omega (arith, inside, small), inside)
 
 pub overflow_mul-at : goal.overflow_mul-at
-overflow_mul-at g c =
-    (there c.args.course.now (g.F.Flash.seen c.args.flash.now).geometry c.layout.result.now c.in-Some-Erase.field-0 c.in-Some-Erase.slot c.in-Some-Erase.sector c.sector-size.result
-    c.requires c.layout.ensures c.sector-size.ensures.valid c.sector-size.ensures.value c.in-Some-Erase.field-0-is c.in-Some-Erase.ensures.inside).0
+overflow_mul-at g c = grind arith
 
 pub overflow_add-at : goal.overflow_add-at
-overflow_add-at g c =
-    (there c.args.course.now (g.F.Flash.seen c.args.flash.now).geometry c.layout.result.now c.in-Some-Erase.field-0 c.in-Some-Erase.slot c.in-Some-Erase.sector c.sector-size.result
-    c.requires c.layout.ensures c.sector-size.ensures.valid c.sector-size.ensures.value c.in-Some-Erase.field-0-is c.in-Some-Erase.ensures.inside).1
+overflow_add-at g c = grind arith
 
 pub slice_bounds-blank-end : goal.slice_bounds-blank-end
-slice_bounds-blank-end g c =
-    let inside = (there c.args.course.now (g.F.Flash.seen c.args.flash.now).geometry c.layout.result.now c.in-Some-Erase.field-0 c.in-Some-Erase.slot c.in-Some-Erase.sector c.sector-size.result
-    c.requires c.layout.ensures c.sector-size.ensures.valid c.sector-size.ensures.value c.in-Some-Erase.field-0-is c.in-Some-Erase.ensures.inside).2 in
-    omega (arith, inside, c.read.ensures.len)
+slice_bounds-blank-end g c = grind (arith, there)
 
 pub returns : goal.returns
-returns g c blank =
-    rw (← c.in-Some-Erase.ensures.at, c.in-Some-Erase.field-0-is)
-    (rw (c.sector-size.ensures.value, c.layout.ensures, c.read.ensures.value) at (sym c.blank.ensures ∙ blank))
+returns g c blank = grind arith

@@ -9,10 +9,7 @@ overflow_mul-result c =
     rw c.sector.ensures.value (omega (arith, range.inside, small))
 
 pub overflow_mul-result-2 : goal.overflow_mul-result-2
-overflow_mul-result-2 c =
-    let range = can_chunk c.args.layout.now c.args.slot c.args.sector c.args.chunk c.chunk.ensures.valid c.requires.there c.requires.below in
-    let small = slot_small c.args.layout.now c.args.slot c.chunk.ensures.valid in
-    rw c.chunk.ensures.value (omega (arith, range.inside, small))
+overflow_mul-result-2 c = grind arith
 
 pub overflow_add-result : goal.overflow_add-result
 overflow_add-result c =

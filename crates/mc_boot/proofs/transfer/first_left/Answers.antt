@@ -1,4 +1,4 @@
-use Rattle.std.proofs.Common.{sym, arith, refl, inl, inr}
+use Rattle.std.proofs.Common.{sym, arith, refl}
 use Rattle.mc_boot.specs.Plan.{moved_up}
 use Rattle.mc_boot.proofs.Courses.{get_moved}
 use Rattle.mc_boot.proofs.Transfers.{left_after, left_none, left_at_pair}
@@ -12,14 +12,7 @@ returns-then-entry-sectors c =
     (get_moved c.args.layout.now c.args.sectors c.in-Some.entry c.if-entry-sectors.true) refl))
 
 pub returns-then-entry-max_sectors-2 : goal.returns-then-entry-max_sectors-2
-returns-then-entry-max_sectors-2 c =
-    let fits = c.requires in
-    rw (c.in-Some.is, c.max_sectors-max_sectors.ensures.value)
-    (sym (left_at_pair c.args.layout.now c.args.sectors c.in-Some.entry (omega (arith, fits)) (omega arith) (omega arith)))
+returns-then-entry-max_sectors-2 c = grind (arith, left_at_pair)
 
 pub returns : goal.returns
-returns c =
-    rw c.in-Some.is (sym (left_none c.args.layout.now c.args.sectors c.in-Some.entry c.if-entry-sectors.false (elim c.else-entry-max_sectors.branch [
-      | else-entry-max_sectors-via-then-entry-max_sectors+else-entry-max_sectors-2 w ↦ inr (omega arith)
-      | else-entry-max_sectors-via-else-entry-max_sectors w ↦ inl (omega arith)
-    ])))
+returns c = grind (arith, left_none, else-entry-max_sectors-via-then-entry-max_sectors+else-entry-max_sectors-2, else-entry-max_sectors-via-else-entry-max_sectors)

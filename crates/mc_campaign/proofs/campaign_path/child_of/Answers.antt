@@ -3,8 +3,7 @@ use Rattle.mc_campaign.proofs.Along.{beyond_first, early, too_late}
 use Rattle.mc_campaign.proofs.campaign_path.child_of.Goals as goal
 
 pub returns-then-cut-eq2 : goal.returns-then-cut-eq2
-returns-then-cut-eq2 c = λ r g confirms p valid summary.
-    beyond_first r g confirms valid c.args.summary.now p c.in-First.is summary c.args.cut (omega (arith, c.if-cut-eq2.true)) c.checked_add.result c.checked_add.ensures
+returns-then-cut-eq2 c = grind (arith, beyond_first)
 
 pub returns-then-cut-summary : goal.returns-then-cut-summary
 returns-then-cut-summary c = λ r g confirms p valid summary.

@@ -1,8 +1,8 @@
 use Rattle.std.proofs.Common.{ℕ, ◌<◌, List, [], ◌∷◌, ◌++◌, length, take, drop, sym, ap, subst, ◌∙◌, arith, ◌+◌, ◌≡◌}
 use Rattle.std.proofs.lemmas.List.{length-take-le, take-append-drop}
-use Rattle.mc_tree.specs.Tree.{round_one, label}
+use Rattle.mc_tree.specs.Tree.{round_one}
 use Rattle.mc_explore.specs.inner.OneRound.{boots}
-use Rattle.mc_campaign.specs.inner.TwoRounds.{cuts_along, rounds, second_start}
+use Rattle.mc_campaign.specs.inner.TwoRounds.{cuts_along, second_start}
 use Rattle.mc_campaign.specs.Campaigns.{IsInOrder}
 use Rattle.mc_campaign.specs.inner.View.{begun_of}
 use Rattle.mc_campaign.specs.facts.Cuts.{along_ordered, ordered_prefix}
@@ -18,12 +18,7 @@ all g c =
     cuts_along w.flash_tree.one_round.rules w.flash_tree.one_round.layout w.flash_tree.confirms (begun_of w).content w.path
 
 below : (g : Over) (c : In-Some g) → c.cuts.step < length c.args.walk.now.path
-below g c =
-    let w = c.args.walk.now in
-    let b = w.flash_tree in
-    let tree = rounds b.one_round.rules b.one_round.layout b.confirms in
-    let name = label (boots b.one_round.rules b.one_round.layout) (second_start b.one_round.rules b.one_round.layout b.confirms) in
-    omega (arith, taken_within (all g c) c.cuts.step (c.in-Some.round, c.in-Some.index) c.in-Some.ensures, labelled-length tree name (round_one (begun_of w).content) w.path)
+below g c = grind (arith, taken_within, labelled-length)
 
 more : (g : Over) (c : In-Some g) → take (c.cuts.step + 1) (all g c) ≡ take c.cuts.step (all g c) ++ (c.in-Some.round, c.in-Some.index) ∷ []
 more g c = taken_more (all g c) c.cuts.step (c.in-Some.round, c.in-Some.index) c.in-Some.ensures
@@ -55,7 +50,4 @@ cuts-preserved g c =
     c.push.ensures ∙ ap (λ z. z ++ (c.in-Some.round, c.in-Some.index) ∷ []) c.cuts.invariant ∙ sym (more g a)
 
 pub returns : goal.returns
-returns g c =
-    let w = c.args.walk.now in
-    let cuts = cuts_along w.flash_tree.one_round.rules w.flash_tree.one_round.layout w.flash_tree.confirms (begun_of w).content w.path in
-    c.cuts.invariant ∙ taken_whole cuts c.cuts.step (sym (is_none c.label.result c.in_default.not-Some) ∙ c.label.ensures)
+returns g c = grind (arith, taken_whole, is_none)

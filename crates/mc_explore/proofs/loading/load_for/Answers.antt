@@ -6,10 +6,4 @@ pub start-requires : goal.start-requires
 start-requires g c = clear _ _ _ _ _ c.args.one_round.rules _ _ (omega (arith, c.from-boots.ensures, c.from.ensures, c.requires.boots.0)) c.in_ok-flash.ensures.loads
 
 pub load-requires : goal.load-requires
-load-requires g c =
-    let boots = c.requires.boots in
-    record {
-      primary = c.requires.primary;
-      secondary = c.requires.secondary;
-      boots = (omega (arith, c.from-boots.ensures, boots.0), omega (arith, c.from-boots.ensures, boots.1));
-    }
+load-requires g c = grind arith

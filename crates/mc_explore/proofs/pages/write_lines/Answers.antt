@@ -1,7 +1,5 @@
-use Rattle.std.proofs.Common.{◌≡◌, ◌-◌, suc, Ok, Err, sym, ap, ◌∙◌, arith}
+use Rattle.std.proofs.Common.{◌≡◌, ◌-◌, suc, arith}
 use Rattle.std.proofs.lemmas.Result.{err_from_is_err_and}
-use Rattle.mc_tree.specs.Tree.{Lost, After}
-use Rattle.mc_explore.specs.declared.error.ExploreError.TheVariants as errors
 use Rattle.mc_explore.proofs.PageRows.{row_paid}
 use Rattle.mc_explore.proofs.PageText.{began_before, began_in_row, end_began, end_out, full_began, full_out, last_index, page_on}
 use Rattle.mc_output.specs.facts.Results.{on_err, on_ok}
@@ -30,22 +28,7 @@ returns-in-None-clause-began g c =
     on_err c.write_text.result _ _ (end_began c.fill.invariant.page (c.fill.room - 1) (omega arith) _ found _) c.write_text.ensures.prefix
 
 pub fill-preserved : goal.fill-preserved
-fill-preserved g c =
-    let found = rw c.in-Some.is at c.in_ok-row.ensures.found in
-    let laws = g.met.S.RowSource.laws in
-    let key = g.S.RowSource.listing.key (g.S.RowSource.shown c.in-Some.row) in
-    let at = ap g.S.RowSource.listing.position found.2 ∙ laws.position_is (g.S.RowSource.state c.fill.source) key in
-    let room : c.fill.room ≡ suc (c.fill.room - 1) = omega arith in
-    let cost = ap g.S.RowSource.most_for_row found.2 ∙ g.met.S.RowSource.cost_stays (g.S.RowSource.state c.fill.source) key ∙ c.fill.invariant.cost_is in
-    record {
-      page = page_on c.fill.invariant.page (c.fill.room - 1) room _ _ _ found c.in_ok-write_row-in-Some.ensures.whole;
-      not_lost = λ e. let q : Lost ≡ After key = sym e ∙ at in absurd cc;
-      stuck = λ e. let q : Ok c.in_ok-row.field-0 ≡ Err errors.Failed = rw c.in_ok-row.was at (c.next_before.ensures.explores.goes.stays_lost (c.fill.invariant.stuck e).0) in absurd cc;
-      unwritten = λ e. let q : Lost ≡ After key = sym e ∙ at in absurd cc;
-      cost_is = cost;
-      limits = c.next_before.ensures.explores.goes.limits ∙ c.fill.invariant.limits;
-      applied = row_paid _ _ c.fill.room (c.fill.room - 1) _ _ room (omega (arith, c.in_ok-row.ensures.applied, c.fill.invariant.cost_is)) c.fill.invariant.applied;
-    }
+fill-preserved g c = grind (arith, page_on, row_paid)
 
 pub returns-clause-page : goal.returns-clause-page
 returns-clause-page g c =

@@ -17,19 +17,11 @@ pub returns-then-bound-eq0-clause-passes : goal.returns-then-bound-eq0-clause-pa
 returns-then-bound-eq0-clause-passes g t c = passes_none g.X.FlashTree.model c.args.walk.now c.requires.stands
 
 pub visit_child-requires-clause-passed : goal.visit_child-requires-clause-passed
-visit_child-requires-clause-passed g t c =
-    let walk = c.args.walk.now in
-    let all = width_here g.X.FlashTree.model walk c.flash_tree.result c.summary.result.now c.width-count.result c.flash_tree.ensures c.summary.ensures c.width-count.ensures in
-    can_pass g.X.FlashTree.model walk c.requires.listed c.loop-number.number (omega (arith, c.loop-number-test.true, all)) (omega (arith, c.requires.deep, c.if-bound-eq0.false))
-    c.loop-number.walk c.loop-number.invariant.come
+visit_child-requires-clause-passed g t c = grind (arith, width_here, can_pass)
 
 -- The walk stands at that child.
 at_child : (g : Over) (t : ℕ) (c : In_ok-end g t) → IsAtChild g.X.FlashTree.model c.args.walk.now c.loop-number.number c.visit_child.new.walk
-at_child g t c =
-    let walk = c.args.walk.now in
-    let all = width_here g.X.FlashTree.model walk c.flash_tree.result c.summary.result.now c.width-count.result c.flash_tree.ensures c.summary.ensures c.width-count.ensures in
-    reached g.X.FlashTree.model walk c.requires.listed c.loop-number.number (omega (arith, c.loop-number-test.true, all)) (omega (arith, c.requires.deep, c.if-bound-eq0.false))
-    c.loop-number.walk c.loop-number.invariant.come c.visit_child.new.walk c.in_ok-end.ensures.reaches c.in_ok-end.ensures.limits
+at_child g t c = grind (arith, width_here, reached)
 
 pub column-requires : goal.column-requires
 column-requires g t c κs within =
@@ -104,7 +96,4 @@ returns-clause-column g t c =
     )
 
 pub returns-clause-passes : goal.returns-clause-passes
-returns-clause-passes g t c =
-    let walk = c.args.walk.now in
-    let all = width_here g.X.FlashTree.model walk c.flash_tree.result c.summary.result.now c.width-count.result c.flash_tree.ensures c.summary.ensures c.width-count.ensures in
-    passes_all g.X.FlashTree.model walk c.loop-number.number c.loop-number.walk (omega (arith, c.loop-number-test.false, c.loop-number.auto.number-end, all)) c.loop-number.invariant.come
+returns-clause-passes g t c = grind (arith, width_here, passes_all)

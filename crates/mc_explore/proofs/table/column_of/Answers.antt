@@ -1,33 +1,15 @@
-use Rattle.std.proofs.Common.{◌≡◌, ℕ, suc, ◌+◌, List, Some, subst, [], ◌∷◌, ◌++◌, length, replicate, sym, ap, ◌∙◌, arith}
+use Rattle.std.proofs.Common.{◌≡◌, ℕ, suc, ◌+◌, List, subst, [], ◌∷◌, ◌++◌, length, replicate, ap, arith}
 use Rattle.std.proofs.lemmas.Grind.{common_steps}
 use Rattle.std.proofs.lemmas.List.{length-append, length-replicate}
-use Rattle.std.specs.List.{slice_get}
-use Rattle.mc_explore.specs.inner.Table.{IsLevel, begin_of}
-use Rattle.mc_explore.specs.inner.Totals.{Totals, merged, cut_off, totals}
+use Rattle.mc_explore.specs.inner.Table.{IsLevel}
+use Rattle.mc_explore.specs.inner.Totals.{merged, totals}
 use Rattle.mc_explore.proofs.Counting.{Census, more_cut_off}
 use Rattle.mc_explore.proofs.Runs.{all_there, none_cut_off}
 use Rattle.mc_tree.specs.inner.Weights.{from}
 use Rattle.mc_explore.proofs.table.column_of.Goals as goal
 
 pub loop-fewer-init : goal.loop-fewer-init
-loop-fewer-init c =
-    let runs = c.args.runs.now in
-    let none = ap length c.new-column.ensures.items in
-    let filled : c.resize.new.self.items ≡ replicate (length runs) c.new.result = grind (arith, common_steps) in
-    let many = ap length filled ∙ length-replicate (length runs) c.new.result in
-    record {
-      many = none;
-      column = λ alone under own zero are i lt. absurd (omega (arith, lt, none));
-      level = λ under zero are. record {
-        split = are.split;
-        alike = λ r i lt le below. are.alike r i lt le below 0;
-        many = many;
-        cut_offs = λ r lt.
-            ap (λ (xs : List Census). slice_get xs r) filled
-            ∙ none_cut_off (length runs) c.new.result c.new.ensures r (omega (arith, lt, many, length-replicate (length runs) c.new.result))
-            ∙ ap (λ (a : Totals). Some (cut_off a)) (sym (zero (begin_of runs c.args.count r)));
-      };
-    }
+loop-fewer-init c = grind (arith, replicate, common_steps, length-replicate, none_cut_off)
 
 pub loop-fewer-preserved : goal.loop-fewer-preserved
 loop-fewer-preserved c =

@@ -1,4 +1,4 @@
-use Rattle.std.proofs.Common.{◌≡◌, ◌<◌, ℕ, suc, ◌+◌, ◌-◌, ◌∷◌, ◌++◌, [], length, List, ap, refl, sym, ◌∙◌, arith}
+use Rattle.std.proofs.Common.{◌≡◌, ◌<◌, ℕ, suc, ◌+◌, ◌-◌, ◌∷◌, ◌++◌, [], length, List, ap, sym, ◌∙◌, arith}
 use Rattle.std.proofs.lemmas.List.{length-append}
 use Rattle.mc_tree.specs.inner.Weights.{from}
 use Rattle.mc_explore.specs.inner.Table.{IsLevel, begin_of, rest_from}
@@ -8,18 +8,7 @@ use Rattle.mc_explore.proofs.Runs.{none_left, rest_parts}
 use Rattle.mc_explore.proofs.table.sums.Goals as goal
 
 pub loop-later-init : goal.loop-later-init
-loop-later-init c =
-    let runs = c.args.runs.now in
-    let n : ℕ = c.args.count in
-    let none = c.new-sums.ensures.items in
-    let pushed : c.push.new.self.items ≡ [] ++ c.new-sum.result ∷ [] = rw none at c.in_ok-push.ensures.items in
-    let sum_is : (under : ℕ → Totals) → IsLevel under n runs c.args.level.now → c.new-sum.result ≡ cut_off (rest_from under n (begin_of runs n (length runs - 0))) = λ under level.
-    c.new-sum.ensures ∙ ap cut_off (sym (none_left under n runs c.args.level.now level)) in
-    record {
-      many = ap length pushed;
-      sum = sum_is;
-      sums = λ under level. more_cut_off (λ k. rest_from under n (begin_of runs n (length runs - k))) [] _ c.new-sum.result 0 pushed refl (λ i lt. absurd (omega (arith, lt))) (sum_is under level);
-    }
+loop-later-init c = grind (arith, none_left, more_cut_off)
 
 pub loop-later-preserved : goal.loop-later-preserved
 loop-later-preserved c =

@@ -1,7 +1,5 @@
-use Rattle.std.proofs.Common.{◌≡◌, ◌+◌, ◌-◌, ◌*◌, ◌<◌, ◌≤◌, suc, Ok, Err, refl, sym, ap, subst, ◌∙◌, arith}
+use Rattle.std.proofs.Common.{◌≡◌, ◌+◌, ◌-◌, ◌*◌, ◌<◌, ◌≤◌, suc, Ok, Err, refl, sym, ap, subst, arith}
 use Rattle.mc_tree.specs.Tree.{Lost, After}
-use Rattle.mc_boot.specs.Plan.{PowerOn}
-use Rattle.mc_explore.specs.Subject.{State}
 use Rattle.mc_explore.specs.declared.error.ExploreError.TheVariants as errors
 use Rattle.mc_explore.specs.declared.tally.TallyOf.{TallyOf}
 use Rattle.mc_explore.proofs.Counted.{count_begin, count_on, counted_full, counted_short, counted_within, last_counted}
@@ -46,27 +44,7 @@ not_failed : {P A : Type 0} (a : A) → Ok a ≡ Err errors.Failed → P
 not_failed a is = absurd cc
 
 pub rows-preserved : goal.rows-preserved
-rows-preserved g c =
-    let x = g.X.Subject.subject in
-    let row = g.X.Subject.shown c.in-Some.row in
-    let n = more g (goal.at.rows-preserved g c).After-add in
-    let found = rw c.in-Some.is at c.in_ok-row.ensures.found in
-    let moved = found.2 in
-    let room : c.args.limit - c.rows.tally.rows ≡ suc (c.args.limit - c.add.new.self.rows) = omega (arith, n, c.rows-test.true) in
-    let cost = ap (λ (s : PowerOn). x.most_for_row s.rules s.geometry) c.rows.invariant.start in
-    record {
-      counted = count_on c.rows.invariant.counted _ row c.add.new.self c.add-in-Some.new.self room found (rw (sym c.end-end.ensures) c.add.ensures) (rw (
-        sym c.key.ensures,
-        sym
-            c.end-end.ensures,
-      ) c.add-in-Some.ensures) (omega (arith, n, c.rows-test.true));
-      not_lost = λ e. not_lost (x.key row) (sym e ∙ ap (λ (s : State g.row.X-Choice.Denot g.row.X-Key.Denot). s.position) moved);
-      stuck = λ e. not_failed c.in_ok-row.field-0 (rw c.in_ok-row.was at (c.next_before.ensures.explores.goes.stays_lost (c.rows.invariant.stuck e).0));
-      still = λ e. not_lost (x.key row) (sym e ∙ ap (λ (s : State g.row.X-Choice.Denot g.row.X-Key.Denot). s.position) moved);
-      start = ap (λ (s : State g.row.X-Choice.Denot g.row.X-Key.Denot). s.start) moved ∙ c.rows.invariant.start;
-      limits = c.next_before.ensures.explores.goes.limits ∙ c.rows.invariant.limits;
-      applied = row_paid _ _ (c.args.limit - c.rows.tally.rows) (c.args.limit - c.add.new.self.rows) _ _ room (omega (arith, c.in_ok-row.ensures.applied, cost)) c.rows.invariant.applied;
-    }
+rows-preserved g c = grind (arith, more, count_on, not_lost, not_failed, row_paid)
 
 pub returns-in-None-clause-surveys : goal.returns-in-None-clause-surveys
 returns-in-None-clause-surveys g c =

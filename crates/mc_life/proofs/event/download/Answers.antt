@@ -4,8 +4,7 @@ use Rattle.mc_life.proofs.Reading.{no_download}
 use Rattle.mc_life.proofs.event.download.Goals as goal
 
 pub returns-in_default : goal.returns-in_default
-returns-in_default c =
-    record { event = (one_piece 32 (omega arith) c.args.rest.now c.split_once.result c.split_once.ensures.cases c.in_default.is, tt); name_is = refl; rest_is = refl }
+returns-in_default c = grind (arith, one_piece)
 
 pub returns-in-Some-number_of : goal.returns-in-Some-number_of
 returns-in-Some-number_of c =

@@ -1,16 +1,9 @@
-use Rattle.std.proofs.Common.{◌≡◌, List, ℕ, length, refl, sym, ap, arith, ◌∙◌}
-use Rattle.mc_flash.specs.Geometry.{Geometry}
+use Rattle.std.proofs.Common.{arith}
 use Rattle.mc_life.proofs.Wiping.{all_counted, counted, wiping_begins, wiping_more, wiping_ends}
 use Rattle.mc_life.proofs.work.wipe.Goals as goal
 
 pub wipe-init : goal.wipe-init
-wipe-init g c =
-    let f = g.F.Flash.seen c.args.flash.now in
-    let all : c.secondary-left.result ≡ f.geometry.secondary = c.secondary-left.ensures.value ∙ ap (λ (x : Geometry). x.secondary) c.layout.ensures in
-    record {
-      wiping = rw all (wiping_begins f (sym (ap (λ (z : List ℕ). length z) c.read-secondary.ensures.value) ∙ c.read-secondary.ensures.len));
-      wear = rw all refl;
-    }
+wipe-init g c = grind (arith, wiping_begins)
 
 pub wipe-preserved : goal.wipe-preserved
 wipe-preserved g c =

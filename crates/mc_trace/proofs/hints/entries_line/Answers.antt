@@ -8,15 +8,4 @@ differ a b other = grind (arith, nat_tests, other)
 
 pub returns-then-span-max_sectors : goal.returns-then-span-max_sectors
 unfolding entries_text
-returns-then-span-max_sectors c =
-    let other = differ _ _ c.if-span-max_sectors.true in
-    rw (
-      c.put_numbers-then-span-max_sectors-3.ensures.text,
-      c.put_numbers-then-span-max_sectors-2.ensures.text,
-      c.put_numbers-then-span-max_sectors.ensures.text,
-      c.put_numbers.ensures.text,
-      c.new-line.ensures,
-      ← c.max_sectors.ensures.value,
-      ← c.unit.ensures.value,
-      other,
-    )
+returns-then-span-max_sectors c = grind (arith, differ)

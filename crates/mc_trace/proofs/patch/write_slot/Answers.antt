@@ -1,4 +1,4 @@
-use Rattle.std.proofs.Common.{◌≡◌, ◌+◌, ◌-◌, ◌<◌, arith, ap, subst}
+use Rattle.std.proofs.Common.{◌+◌, ◌<◌, arith, ap, subst}
 use Rattle.std.proofs.lemmas.Result.{err_from_is_err_and}
 use Rattle.mc_flash.specs.Flash.{sectors_of}
 use Rattle.mc_flash.specs.Geometry.{Geometry}
@@ -26,27 +26,7 @@ returns-in_err-write_sector-clause-written g c =
     (left l start slot bytes (i + 1)) out c.in_err-write_sector.ensures.written)
 
 pub loop-sector-preserved : goal.loop-sector-preserved
-loop-sector-preserved g c =
-    let l = c.args.start.now.geometry in
-    let start = c.args.start.now.content in
-    let slot = c.args.slot in
-    let bytes = c.args.bytes.now in
-    let i = c.loop-sector.sector in
-    let before = g.W.Write.contents c.args.writer.now in
-    let mid = g.W.Write.contents c.loop-sector.writer in
-    let whole = lines_text (slot_changes l start slot bytes) in
-    let more : i < sectors_of l slot =
-    omega (arith, c.loop-sector-test.true, c.sectors-sectors.ensures.value, ap (λ (x : Geometry). sectors_of x slot) c.layout.ensures.value) in
-    let out = subst (IsOut before mid whole) (left_next l start slot bytes i more) c.loop-sector.invariant.out in
-    record {
-      out = out_more before mid (g.W.Write.contents c.write_sector.new.writer) whole (lines_text (change_of l start slot i (sector_of l bytes i)))
-          (left l start slot bytes (i + 1)) out c.in_ok-write_sector.ensures.written;
-    }
+loop-sector-preserved g c = grind (arith, left_next, out_more, left)
 
 pub returns-clause-written : goal.returns-clause-written
-returns-clause-written g c =
-    let l = c.args.start.now.geometry in
-    let slot = c.args.slot in
-    let none : sectors_of l slot - c.loop-sector.sector ≡ 0 =
-    omega (arith, c.loop-sector-test.false, c.sectors-sectors.ensures.value, ap (λ (x : Geometry). sectors_of x slot) c.layout.ensures.value) in
-    out_all _ _ _ (rw none at c.loop-sector.invariant.out)
+returns-clause-written g c = grind (arith, out_all)

@@ -6,7 +6,7 @@ use Rattle.mc_start.specs.Start.{begun}
 use Rattle.std.specs.Io.KnownBytes.{Appends}
 use Rattle.mc_output.specs.Text.{AppendsPrefix}
 use Rattle.mc_trace.specs.Trace.{trace_text}
-use Rattle.mc_trace.proofs.Tracing.{none_written, one_begun, one_inside, one_written, one_counted, room_left, last_begun, outcome_begun, outcome_written, no_refusal}
+use Rattle.mc_trace.proofs.Tracing.{none_written, one_begun, one_inside, one_written, one_counted, room_left, last_begun, outcome_begun, outcome_written}
 use Rattle.mc_trace.proofs.trace.write_trace.Given.{Over}
 use Rattle.mc_trace.proofs.trace.write_trace.Goals as goal
 use Rattle.mc_trace.proofs.trace.write_trace.Goals.{In_ok-flash}
@@ -34,9 +34,7 @@ returns-in_err-write_cut_boot-clause-prefix g c =
     c.boots.cut-index c.boots.boot (g.F.Flash.seen c.boots.flash) c.boots.invariant.written c.boots-test.true r.cut occurs (rw c.rules-rules.ensures at c.in_err-write_cut_boot.ensures.prefix)))
 
 pub returns-in_err-write_cut_boot-clause-refused : goal.returns-in_err-write_cut_boot-clause-refused
-returns-in_err-write_cut_boot-clause-refused g c =
-    let failed = err_from_is_err_and c.from_residual-in_err-write_cut_boot.result c.from_residual-in_err-write_cut_boot.ensures.1 in
-    rw failed.1 (no_refusal (begun c.args.start.now) c.args.schedule.now c.args.writer.now c.write_cut_boot.new.writer failed.0 (rw failed.2 c.in_err-write_cut_boot.ensures.err))
+returns-in_err-write_cut_boot-clause-refused g c = grind arith
 
 pub boots-preserved : goal.boots-preserved
 boots-preserved g c =
@@ -68,9 +66,7 @@ returns-in_err-write_last_boot-clause-prefix g c =
     (rw c.rules-rules.ensures at c.in_err-write_last_boot.ensures.prefix)))
 
 pub returns-in_err-write_last_boot-clause-refused : goal.returns-in_err-write_last_boot-clause-refused
-returns-in_err-write_last_boot-clause-refused g c =
-    let failed = err_from_is_err_and c.from_residual-in_err-write_last_boot.result c.from_residual-in_err-write_last_boot.ensures.1 in
-    rw failed.1 (no_refusal (begun c.args.start.now) c.args.schedule.now c.args.writer.now c.write_last_boot.new.writer failed.0 (rw failed.2 c.in_err-write_last_boot.ensures.err))
+returns-in_err-write_last_boot-clause-refused g c = grind arith
 
 pub returns-in_err-write_line-clause-prefix : goal.returns-in_err-write_line-clause-prefix
 returns-in_err-write_line-clause-prefix g c =

@@ -1,7 +1,6 @@
 use Rattle.std.proofs.Common.{ℕ, ◌*◌, ◌≤◌, arith, sym, ◌∙◌}
 use Rattle.std.proofs.Math.Nat.{mul-le-mul_right}
 use Rattle.mc_flash.specs.Geometry.{greatest_sectors}
-use Rattle.mc_flash.specs.facts.Usage.{few_sectors, few_trailer_sectors}
 use Rattle.mc_trace.proofs.SwapWork.{begun_erasing_count, erase_count, whole}
 use Rattle.mc_trace.proofs.wear.swap_erases.Goals as goal
 
@@ -9,8 +8,7 @@ few : (n t : ℕ) → n ≤ 3 → t ≤ 262144 → n * t ≤ 786432
 few n t trailers sectors = let most = mul-le-mul_right t trailers in omega (arith, most, sectors)
 
 pub overflow_mul-result : goal.overflow_mul-result
-overflow_mul-result c =
-    omega (arith, few c.trailers.result c.trailer_sectors.result c.trailers.ensures.few (rw c.trailer_sectors.ensures.value (few_trailer_sectors c.args.layout.now c.trailer_sectors.ensures.valid)))
+overflow_mul-result c = grind arith
 
 pub returns-clause-count : goal.returns-clause-count
 returns-clause-count c grain =
@@ -19,7 +17,4 @@ returns-clause-count c grain =
     (sym (erase_count l _ _ _ (whole grain l c.args.kind c.greatest_sectors.ensures.valid) ∙ begun_erasing_count l c.args.kind (greatest_sectors l)))
 
 pub returns-clause-few : goal.returns-clause-few
-returns-clause-few c =
-    let l = c.args.layout.now in
-    rw (c.trailer_sectors.ensures.value, c.greatest_sectors.ensures.value)
-    (omega (arith, few _ _ c.trailers.ensures.few (few_trailer_sectors l c.greatest_sectors.ensures.valid), few_sectors l c.greatest_sectors.ensures.valid))
+returns-clause-few c = grind arith

@@ -1,15 +1,12 @@
 use Rattle.std.proofs.Common.{◌≡◌, arith, Some, sym, ap, ◌∙◌}
 use Rattle.mc_boot.specs.Joins.{erases_of, kept_of}
-use Rattle.mc_boot.proofs.SharedTailProof.{tail_shared_among, tail_shared_beyond, tail_shared_here}
+use Rattle.mc_boot.proofs.SharedTailProof.{tail_shared_among, tail_shared_beyond}
 use Rattle.mc_boot.proofs.shared_tail.SharedTail.find.Goals as goal
 use Rattle.mc_boot.proofs.shared_tail.SharedTail.find.Goals.{then-done-kept, else-done-kept+in_ok-only}
 use Rattle.mc_boot.specs.Plan.{power_on}
 
 pub returns-then-done-eq0 : goal.returns-then-done-eq0
-returns-then-done-eq0 g c =
-    let seen = g.F.Flash.seen c.args.flash.now in
-    let none : c.args.cut.now.done ≡ 0 = omega (arith, c.if-done-eq0.true, c.count-done.ensures) in
-    λ r s whole is start. tail_shared_here (power_on r seen.geometry s) seen.content c.args.cut.now whole _ is none (omega arith) (omega arith)
+returns-then-done-eq0 g c = grind arith
 
 pub returns : goal.returns
 returns g c =

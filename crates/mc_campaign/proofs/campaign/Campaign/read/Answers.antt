@@ -1,5 +1,4 @@
-use Rattle.std.specs.Prelude.{Ok, codes}
-use Rattle.std.proofs.Common.{rules, arith, sym, ap, ◌∙◌, List, ℕ}
+use Rattle.std.proofs.Common.{rules, arith}
 use Rattle.std.proofs.lemmas.Result.{err_from_is_err_and}
 use Rattle.std.proofs.lemmas.Slice.Eq.{bytes_eq-Decides}
 use Rattle.mc_output.specs.facts.Reading.{dash, not_next, not_last, left_next, text_next, text_last, all_read, added_valid}
@@ -9,9 +8,7 @@ use Rattle.mc_campaign.proofs.Reading.{spelling}
 use Rattle.mc_campaign.proofs.campaign.Campaign.read.Goals as goal
 
 pub returns-then-eq-clause-only : goal.returns-then-eq-clause-only
-returns-then-eq-clause-only c = λ m ok summary.
-    let empty = dash spelling m c.args.text.now ok ((bytes_eq-Decides c.args.text.now (codes "-")).0 (sym (c.if-eq.ensures))) summary in
-    ap (λ (x : List (ℕ × ℕ)). Ok x) (c.new-campaign.ensures ∙ sym empty)
+returns-then-eq-clause-only c = grind (arith, dash, spelling, bytes_eq-Decides)
 
 pub returns-in_err-add-clause-exact : goal.returns-in_err-add-clause-exact
 returns-in_err-add-clause-exact c =
@@ -39,25 +36,16 @@ cuts-preserved c =
     }
 
 pub returns-in_err-add-2-clause-exact : goal.returns-in_err-add-2-clause-exact
-returns-in_err-add-2-clause-exact c =
-    let q = err_from_is_err_and c.from_residual-in_err-add-2.result c.from_residual-in_err-add-2.ensures.1 in
-    let lacks = one_piece 44 (omega arith) c.cuts.rest.now c.split_once.result c.split_once.ensures.cases c.in_default.is in
-    rw q.1 (λ m ok summary. not_last spelling c.cuts.campaign m c.cuts.rest.now ok (c.cuts.invariant.left m ok summary) lacks c.in_err-add-2.ensures.refused)
+returns-in_err-add-2-clause-exact c = grind (arith, err_from_is_err_and, one_piece, not_last, spelling)
 
 pub returns-in_err-add-2-clause-only : goal.returns-in_err-add-2-clause-only
-returns-in_err-add-2-clause-only c = λ m ok summary.
-    let lacks = one_piece 44 (omega arith) c.cuts.rest.now c.split_once.result c.split_once.ensures.cases c.in_default.is in
-    absurd (not_last spelling c.cuts.campaign m c.cuts.rest.now ok (c.cuts.invariant.left m ok summary) lacks c.in_err-add-2.ensures.refused)
+returns-in_err-add-2-clause-only c = grind (arith, one_piece, not_last, spelling)
 
 pub returns-clause-exact : goal.returns-clause-exact
 returns-clause-exact c = text_last 44 cut_text c.cuts.campaign c.add-2.new.self c.args.text.now c.cuts.rest.now c.cuts.invariant.text c.in_ok-add-2.ensures.added
 
 pub returns-clause-only : goal.returns-clause-only
-returns-clause-only c = λ m ok summary.
-    let lacks = one_piece 44 (omega arith) c.cuts.rest.now c.split_once.result c.split_once.ensures.cases c.in_default.is in
-    let all = all_read spelling c.cuts.campaign m c.add-2.new.self c.cuts.rest.now ok
-    (c.cuts.invariant.left m ok summary) lacks c.in_ok-add-2.ensures.added in
-    ap (λ (x : List (ℕ × ℕ)). Ok x) all
+returns-clause-only c = grind (arith, one_piece, all_read, spelling)
 
 pub returns-clause-valid : goal.returns-clause-valid
 returns-clause-valid c = added_valid spelling c.cuts.campaign c.add-2.new.self c.cuts.rest.now c.cuts.invariant.valid c.in_ok-add-2.ensures.added

@@ -1,4 +1,4 @@
-use Rattle.std.proofs.Common.{Bool, List, [], ap, arith, false, length, subst, sym, take, true, ℕ, ◌++◌, ◌+◌, ◌∙◌, ◌≡◌, ◌≤◌}
+use Rattle.std.proofs.Common.{Bool, List, [], ap, arith, false, length, subst, sym, true, ℕ, ◌++◌, ◌∙◌, ◌≡◌, ◌≤◌}
 use Rattle.std.proofs.lemmas.List.{length-take-le}
 use Rattle.mc_boot.specs.Plan.{PowerOn}
 use Rattle.mc_campaign.proofs.Replays.{kind_of}
@@ -14,24 +14,19 @@ use Rattle.mc_campaign.proofs.campaign_subject.TwoRoundsCountable.key_at.Goals a
 -- The walk went along no more than the path.
 short : (path : List ℕ) (old new : Walked TwoRounds) (went : Bool) → old.path ≡ [] → Follows (kind_of old.flash_tree) path old went new → length new.path ≤ length path
 short path old new true root f = omega (arith, ap length f.0, ap (λ (l : List ℕ). length (l ++ path)) root)
-short path old new false root f =
-    omega (arith, ap length f.prefix, ap (λ (l : List ℕ). length (l ++ take f.steps path)) root, length-take-le f.steps path (omega (arith, f.inside)), f.inside)
+short path old new false root f = grind (arith, length-take-le)
 
 -- And along the whole path, where that is one of the tree.
 whole : (path : List ℕ) (old new : Walked TwoRounds) (went : Bool) (bound : ℕ) → old.path ≡ [] → length path ≤ old.bound
     → IsMember (rounds old.flash_tree.one_round.rules old.flash_tree.one_round.layout old.flash_tree.confirms) (round_one (origin_of old.seen)) bound path
     → Follows (kind_of old.flash_tree) path old went new → new.path ≡ path
 whole path old new true bound root room m f = f.0 ∙ ap (λ (l : List ℕ). l ++ path) root
-whole path old new false bound root room m f =
-    let prefix = allowed_prefix (rounds old.flash_tree.one_round.rules old.flash_tree.one_round.layout old.flash_tree.confirms) (round_one (origin_of old.seen)) path (f.steps + 1) m.1 in
-    absurd (f.no_child (subst (λ l. IsMember (rounds old.flash_tree.one_round.rules old.flash_tree.one_round.layout old.flash_tree.confirms) (round_one (origin_of old.seen)) old.bound
-    (l ++ take (f.steps + 1) path)) (sym root) (omega (arith, room, f.inside, length-take-le (f.steps + 1) path (omega (arith, f.inside))), prefix)))
+whole path old new false bound root room m f = grind (arith, allowed_prefix, length-take-le)
 
 -- The cuts along a path are those of its start and its choice.
 same_cuts : (t b : TwoRounds) (s c : Content) (path : List ℕ) → begins t.one_round s ≡ begins b.one_round c → t.confirms ≡ b.confirms
     → cuts_along t.one_round.rules t.one_round.layout t.confirms s path ≡ cuts_along b.one_round.rules b.one_round.layout b.confirms c path
-same_cuts t b s c path start choice =
-    ap (λ (x : PowerOn). cuts_along x.rules x.geometry t.confirms x.content path) start ∙ ap (λ (k : Bool). cuts_along b.one_round.rules b.one_round.layout k c path) choice
+same_cuts t b s c path start choice = grind arith
 
 same_member : (t b : TwoRounds) (s c : Content) (bound : ℕ) (path : List ℕ) → begins t.one_round s ≡ begins b.one_round c → t.confirms ≡ b.confirms
     → IsMember (rounds b.one_round.rules b.one_round.layout b.confirms) (round_one c) bound path → IsMember (rounds t.one_round.rules t.one_round.layout t.confirms) (round_one s) bound path
@@ -44,8 +39,7 @@ went_same path old new true f = f.2
 went_same path old new false f = f.same
 
 pub campaign_at-requires-clause-at_most : goal.campaign_at-requires-clause-at_most
-campaign_at-requires-clause-at_most g c =
-    omega (arith, short c.cuts-cuts.result.now c.begin.new.self c.follow.new.self c.in_ok-follow.field-0 c.in_ok-begin.ensures.begins.path c.in_ok-follow.ensures.step, c.cuts-cuts.ensures.at_most)
+campaign_at-requires-clause-at_most g c = grind arith
 
 pub returns-clause-key : goal.returns-clause-key
 returns-clause-key g c = λ b s bound start choice member.

@@ -2,35 +2,20 @@ use Rattle.std.proofs.Common.{◌∙◌, ap, arith}
 use Rattle.mc_start.specs.Start.{begun}
 use Rattle.mc_walk.specs.Walks.{position_of}
 use Rattle.mc_explore.specs.inner.Exploring.{Rowed, state_of}
-use Rattle.mc_explore.proofs.Beginning.{beyond_it, cheap, few_there, listed, resumed, stands_there, valid_there}
+use Rattle.mc_explore.proofs.Beginning.{beyond_it, listed}
 use Rattle.mc_explore.proofs.tree_explorer.TreeExplorer.after.Goals as goal
 
 pub follow-requires-clause-valid : goal.follow-requires-clause-valid
-follow-requires-clause-valid g c =
-    valid_there g.X.Subject.subject g.X.FlashTree.model g.X.Subject.begins g.X.Subject.choice g.X.Subject.key_of g.met.X.Subject.are_keys g.F.Flash.counted (begun c.args.start.now)
-    c.args.choice c.args.bound _
-    c.in_ok-walk.walk c.begin.new.self c.begin.new.self c.in_ok-begin.field-0 c.args.key.now c.in_ok-walk.ensures.loaded c.in_ok-begin.ensures.begins c.in_ok-begin.ensures.spends
+follow-requires-clause-valid g c = grind arith
 
 pub after-requires-clause-stands : goal.after-requires-clause-stands
-after-requires-clause-stands g c =
-    stands_there g.X.Subject.subject g.X.FlashTree.model g.X.Subject.begins g.X.Subject.choice g.X.Subject.key_of g.met.X.Subject.are_keys g.F.Flash.counted (begun c.args.start.now) c.args.choice
-    c.args.bound _ c.in_ok-walk.walk c.begin.new.self c.follow.new.walk c.in_ok-begin.field-0 c.args.key.now c.in_ok-walk.ensures.loaded c.in_ok-begin.ensures.begins c.in_ok-begin.ensures.spends
-    c.in_ok-follow.field-0 c.if-not-branch.false c.in_ok-follow.ensures.follows c.in_ok-follow.ensures.no_allocation_failed c.requires
+after-requires-clause-stands g c = grind arith
 
 pub after-requires-clause-at_most : goal.after-requires-clause-at_most
-after-requires-clause-at_most g c =
-    few_there g.X.Subject.subject g.X.FlashTree.model g.X.Subject.begins g.X.Subject.choice g.X.Subject.key_of g.met.X.Subject.are_keys g.F.Flash.counted (begun c.args.start.now) c.args.choice
-    c.args.bound _ c.in_ok-walk.walk c.begin.new.self c.follow.new.walk c.in_ok-begin.field-0 c.args.key.now c.in_ok-walk.ensures.loaded c.in_ok-begin.ensures.begins c.in_ok-begin.ensures.spends
-    c.in_ok-follow.field-0 c.if-not-branch.false c.in_ok-follow.ensures.follows c.in_ok-follow.ensures.no_allocation_failed c.requires
+after-requires-clause-at_most g c = grind arith
 
 pub invariant_of-result : goal.invariant_of-result
-invariant_of-result g c = (
-  rw c.after.ensures (resumed g.X.Subject.subject g.X.FlashTree.model g.X.Subject.begins g.X.Subject.choice g.X.Subject.key_of g.met.X.Subject.are_keys g.F.Flash.counted (begun
-      c.args.start.now) c.args.choice
-      c.args.bound _ c.in_ok-walk.walk c.begin.new.self c.follow.new.walk c.in_ok-begin.field-0 c.args.key.now c.in_ok-walk.ensures.loaded c.in_ok-begin.ensures.begins c.in_ok-begin.ensures.spends
-      c.in_ok-follow.field-0 c.if-not-branch.false c.in_ok-follow.ensures.follows c.in_ok-follow.ensures.no_allocation_failed c.requires),
-  tt,
-)
+invariant_of-result g c = grind arith
 
 pub returns-clause-resumes : goal.returns-clause-resumes
 returns-clause-resumes g c = (
@@ -44,9 +29,4 @@ returns-clause-resumes g c = (
 )
 
 pub returns-clause-cheap : goal.returns-clause-cheap
-returns-clause-cheap g c =
-    rw c.after.ensures (cheap g.X.Subject.subject g.X.FlashTree.model g.X.Subject.begins g.X.Subject.choice g.X.Subject.key_of g.met.X.Subject.are_keys g.F.Flash.counted (begun
-    c.args.start.now) c.args.choice
-    c.args.bound _ c.in_ok-walk.walk c.begin.new.self c.follow.new.walk c.in_ok-begin.field-0 c.args.key.now c.in_ok-walk.ensures.loaded c.in_ok-begin.ensures.begins c.in_ok-begin.ensures.spends
-    c.in_ok-follow.field-0 c.if-not-branch.false c.in_ok-follow.ensures.follows c.in_ok-follow.ensures.no_allocation_failed c.requires
-    c.in_ok-follow.ensures.cheap (omega arith))
+returns-clause-cheap g c = grind arith

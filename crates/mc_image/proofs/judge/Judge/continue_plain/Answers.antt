@@ -1,13 +1,10 @@
-use Rattle.std.proofs.Common.{◌≡◌, arith, refl, ap, ◌∙◌, subst, append_assoc, List, ℕ}
+use Rattle.std.proofs.Common.{◌≡◌, arith, ap, ◌∙◌, subst, append_assoc, List, ℕ}
 use Rattle.mc_image.specs.Image.{IsBytes}
 use Rattle.mc_image.specs.inner.Judging.{verdict, IsPlain}
 use Rattle.mc_image.proofs.judge.Judge.continue_plain.Goals as goal
 
 pub returns-then-left-gt0 : goal.returns-then-left-gt0
-returns-then-left-gt0 c = λ body area are is plain. record {
-  bytes = are;
-  stage = (omega arith, record { body = body; rest = area; split = refl; sealed = is; stands = plain });
-}
+returns-then-left-gt0 c = grind arith
 
 pub returns-else-left-gt0 : goal.returns-else-left-gt0
 returns-else-left-gt0 c = λ body area are is plain.

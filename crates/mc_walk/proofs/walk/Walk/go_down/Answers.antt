@@ -1,8 +1,7 @@
 use Rattle.std.proofs.Common.{◌+◌, ◌*◌, true, false, Some, length, refl, subst, ap, ◌∙◌, arith}
-use Rattle.mc_flash.specs.Usage.{Spent}
-use Rattle.mc_walk.specs.Walks.{Walked, walked, GoesDown, child_cost}
+use Rattle.mc_walk.specs.Walks.{Walked, walked, GoesDown}
 use Rattle.mc_walk.specs.declared.frame.Frame.{Frame}
-use Rattle.mc_walk.proofs.Steps.{Ready, Arrives, can_reach, no_child, ready_down, ready_here, ready_room, ready_mark, arrives, gone_down}
+use Rattle.mc_walk.proofs.Steps.{Ready, Arrives, can_reach, no_child, ready_here, ready_room, ready_mark, arrives, gone_down}
 use Rattle.mc_walk.proofs.walk.Walk.go_down.Given.{Over}
 use Rattle.mc_walk.proofs.walk.Walk.go_down.Goals as goal
 use Rattle.mc_walk.proofs.walk.Walk.go_down.Goals.{In_ok-at, In_ok-summary}
@@ -16,11 +15,7 @@ IsReady g c f =
     Ready k c.self.inside.bound ((c.args.number + 1) * k.step) (g.F.Flash.seen c.self.inside.flash) (g.F.Flash.seen c.go_to_child.new.flash) c.self.inside.frames.items f
 
 ready : (g : Over) (c : In_ok-at g) → IsReady g c (down g c)
-ready g c =
-    let w = c.self.inside in
-    let h = c.in_ok-at.ensures in
-    ready_down (g.B.FlashTree.model w.flash_tree) c.args.number w.bound _ (g.F.Flash.seen w.flash) w.frames.items w.summary c.self.invariant.going (ap length c.deref.ensures.value) c.in-Some.parent
-    c.in-Some.ensures _ (g.F.Flash.seen c.go_to_child.new.flash) c.in_ok-at.at h.keeps h.reaches h.spends
+ready g c = grind arith
 
 abbrev WasReady : (g : Over) (c : In_ok-summary g) → Type 0
 WasReady g c =
@@ -80,7 +75,4 @@ returns-clause-step g c =
     c.in_ok-summary.ensures.frames)
 
 pub returns-clause-spends : goal.returns-clause-spends
-returns-clause-spends g c =
-    let a = goal.at.returns-clause-spends g c in
-    let h = there g a.In_ok-summary (ready g a.In_ok-at) in
-    subst (λ (z : Walked g.row.B.Denot). Spent (child_cost (g.B.FlashTree.model z.flash_tree) c.args.number) z.seen (g.F.Flash.seen c.enter.new.flash)) c.self.view_is h.spent
+returns-clause-spends g c = grind arith

@@ -1,5 +1,5 @@
 use Rattle.std.proofs.lemmas.Option.{slice_get_read}
-use Rattle.std.proofs.Common.{◌≡◌, arith, length, refl, None, Some, rules, ap, subst, ◌∙◌}
+use Rattle.std.proofs.Common.{◌≡◌, arith, length, refl, Some, ap, subst, ◌∙◌}
 use Rattle.std.specs.List.{slice_get}
 use Rattle.mc_tree.specs.Tree.{labelled}
 use Rattle.mc_walk.specs.Walks.{Walked, root_of}
@@ -7,14 +7,7 @@ use Rattle.mc_walk.proofs.Along.{label_at, no_label}
 use Rattle.mc_walk.proofs.walk.Walk.label.Goals as goal
 
 pub returns-in_err-frame : goal.returns-in_err-frame
-returns-in_err-frame g c =
-    let w = c.self.inside in
-    let k = g.B.FlashTree.model w.flash_tree in
-    subst (λ (z : Walked g.row.B.Denot). c.from_residual.result ≡ slice_get (labelled (g.B.FlashTree.model z.flash_tree).tree (g.B.FlashTree.label_of z.flash_tree) (root_of
-    (g.B.FlashTree.model z.flash_tree) z)
-    z.path) c.args.step) c.self.view_is
-    (let none : c.from_residual.result ≡ None = search rules in none ∙ no_label k (g.B.FlashTree.label_of w.flash_tree) w.bound c.args.step (g.F.Flash.seen w.flash) w.frames.items w.summary
-    (rw c.deref.ensures.value at c.in_err-frame.ensures.lookup).2)
+returns-in_err-frame g c = grind (arith, no_label)
 
 pub returns : goal.returns
 returns g c =

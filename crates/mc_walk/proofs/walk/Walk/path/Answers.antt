@@ -1,7 +1,6 @@
-use Rattle.std.proofs.Common.{◌≡◌, ℕ, ◌<◌, ◌≤◌, List, take, length, length-take, ◌++◌, ◌∷◌, [], sym, ap, subst, ◌∙◌, arith}
+use Rattle.std.proofs.Common.{◌≡◌, ℕ, ◌<◌, ◌≤◌, List, take, length, length-take, ◌++◌, ◌∷◌, [], sym, ap, ◌∙◌, arith}
 use Rattle.std.proofs.lemmas.List.{length-map, take_more}
 use Rattle.mc_walk.specs.inner.Stack.{path_of}
-use Rattle.mc_walk.specs.Walks.{Walked}
 use Rattle.mc_walk.specs.declared.frame.Frame.{Frame}
 use Rattle.mc_walk.proofs.Stacks.{path-push}
 use Rattle.mc_walk.proofs.Steps.{standing}
@@ -13,16 +12,10 @@ small = omega arith
 -- There is room for one number more.
 room : {A T : Type 0} (items : List ℕ) (fs all : List (Frame A T)) (i bound : ℕ) → items ≡ path_of (take i fs) → i < length fs → fs ≡ all → length all ≤ bound → bound ≤ 16
     → length items < 16
-room items fs all i bound is lt same at_most most =
-    omega (arith, ap length is, length-map (take i fs) (λ (f : Frame _ _). f.number), length-take i fs, lt, ap length same, at_most, most)
+room items fs all i bound is lt same at_most most = grind (arith, length-map, length-take)
 
 pub push-requires : goal.push-requires
-push-requires g c =
-    let w = c.self.inside in
-    let stands = ap (λ (z : Walked _). z.stands) c.self.view_is ∙ c.requires.stands in
-    let going = standing (g.B.FlashTree.model w.flash_tree) w.bound (g.F.Flash.seen w.flash) w.frames.items w.summary stands c.self.invariant.going in
-    let most = subst (λ (z : Walked g.row.B.Denot). z.bound ≤ 16) (sym c.self.view_is) c.requires.room in
-    (small, room _ _ _ c.loop-frame.frame-index w.bound c.loop-frame.invariant c.loop-frame-test.true c.deref-frame-items.ensures.value going.1.at_most most)
+push-requires g c = grind (arith, standing, room, small)
 
 pub loop-frame-preserved : goal.loop-frame-preserved
 loop-frame-preserved g c =
