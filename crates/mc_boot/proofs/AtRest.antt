@@ -1,32 +1,18 @@
 -- A flash at rest: its plan is idle, or one of three swaps of valid images that fit; the type of the next boot in the words of the automaton.
-use Rattle.std.proofs.Common.{ap, arith, inl, inr, sym, ◌∙◌}
-use Rattle.std.proofs.Math.Nat.{mul-le-mul_right}
-use Rattle.std.proofs.lemmas.Bool.{cases_lt}
-use Rattle.std.proofs.lemmas.Bool.Decides.{nat_tests}
+use Rattle.std.proofs.{Common.{ap, arith, inl, inr, sym, ◌∙◌}, Math.Nat.{mul-le-mul_right}, lemmas.Bool.{cases_lt}, lemmas.Bool.Decides.{nat_tests}}
 use Rattle.std.proofs.lemmas.Grind.{div_ceil_times}
 use Rattle.std.specs.Int.{div_ceil}
 use Rattle.std.specs.Prelude.{Bool, Option, [], false, if◌then◌else◌, int_le, nat_lt, not, pos, refl, true, ℕ, ◌&&◌, ◌*◌, ◌+◌, ◌<◌, ◌||◌, ◌≡◌, ◌≢◌, ◌≤◌, ◌⊎◌}
-use Rattle.mc_boot.proofs.Images.{HasImage}
-use Rattle.mc_boot.proofs.Phases.{larger_size, new_swap_is, starting}
-use Rattle.mc_boot.proofs.Plans.{plan_new, plan_resumed}
-use Rattle.mc_boot.proofs.Starts.{count_of}
+use Rattle.mc_boot.proofs.{Images.{HasImage}, Phases.{larger_size, new_swap_is, starting}, Plans.{plan_new, plan_resumed}, Starts.{count_of}}
 use Rattle.mc_boot.specs.Life.{asked_of, can_swap, done_or_fails, is_at_rest, is_on_trial, is_swap}
 use Rattle.mc_boot.specs.Plan.{Plan, PowerOn, image_size, images_of, new_plan, new_swap, nothing, plan, power_on, resumed_plan}
 use Rattle.mc_boot.specs.declared.image.Images.{Images}
-use Rattle.mc_flash.specs.Flash.{Content, IsSized}
-use Rattle.mc_flash.specs.Geometry.{Geometry, IsLayout, fits, greatest_sectors}
-use Rattle.mc_flash.specs.declared.flash.Grain.{Grain}
-use Rattle.mc_flash.specs.declared.op.Slot.TheVariants.{Primary, Secondary}
-use Rattle.mc_flash.specs.facts.Layouts.{fits_few, greatest_is}
+use Rattle.mc_flash.specs.{Flash.{Content, IsSized}, Geometry.{Geometry, IsLayout, fits, greatest_sectors}, declared.flash.Grain.{Grain}}
+use Rattle.mc_flash.specs.{declared.op.Slot.TheVariants.{Primary, Secondary}, facts.Layouts.{fits_few, greatest_is}}
 use Rattle.mc_image.specs.Valid.{is_valid}
-use Rattle.mc_trailer.specs.Tables.{is_good, is_resumed, is_set, is_unset, swap_type, table_of}
-use Rattle.mc_trailer.specs.Trailer.{highest_entry, trailer_of}
-use Rattle.mc_trailer.specs.declared.tables.Profile.{Profile}
-use Rattle.mc_trailer.specs.declared.tables.Rules.{Rules}
-use Rattle.mc_trailer.specs.declared.tables.SwapType.{SwapType}
-use Rattle.mc_trailer.specs.declared.trailer.Flag.{Flag}
-use Rattle.mc_trailer.specs.declared.trailer.Trailer.{Trailer}
-use Rattle.mc_trailer.specs.facts.Tables.{types_are_rows}
+use Rattle.mc_trailer.specs.{Tables.{is_good, is_resumed, is_set, is_unset, swap_type, table_of}, Trailer.{highest_entry, trailer_of}}
+use Rattle.mc_trailer.specs.{declared.tables.Profile.{Profile}, declared.tables.Rules.{Rules}, declared.tables.SwapType.{SwapType}}
+use Rattle.mc_trailer.specs.{declared.trailer.Flag.{Flag}, declared.trailer.Trailer.{Trailer}, facts.Tables.{types_are_rows}}
 use Rattle.mc_trailer.specs.declared.tables.SwapType.TheVariants as kinds
 
 -- A device at rest: no swap is under way, and the secondary may hold anything. What its next boot is to do.

@@ -1,43 +1,25 @@
 -- Courses that go on with another one: in their transfers, in their openings, by the test, and so the outcome after a cut.
 use Rattle.std.proofs.Common.{ap, append_assoc, arith, inl, inr, length-append, subst, sym, zero-mul, ◌∙◌, zero-add, add-zero}
-use Rattle.std.proofs.Math.Nat.{mod-add-div', mul-le-mul_right}
-use Rattle.std.proofs.Math.Seq.{drop-append-add}
-use Rattle.std.proofs.lemmas.List.{drop-drop, length-drop, length-take, length-map, drop_all}
-use Rattle.std.proofs.lemmas.List.FromFn.{length-map-range_with_len}
-use Rattle.std.specs.Bool.{beq}
-use Rattle.std.specs.List.{AllByRecursion, between, range_with_len}
+use Rattle.std.proofs.{Math.Nat.{mod-add-div', mul-le-mul_right}, Math.Seq.{drop-append-add}}
+use Rattle.std.proofs.{lemmas.List.{drop-drop, length-drop, length-take, length-map, drop_all}, lemmas.List.FromFn.{length-map-range_with_len}}
+use Rattle.std.specs.{Bool.{beq}, List.{AllByRecursion, between, range_with_len}}
 use Rattle.std.specs.Prelude.{Bool, IfSome, List, Option, Some, [], drop, false, flat_map, if◌then◌else◌, length, map, nat_le, not, option_map, refl, slice_get, suc, take, true, zero, ℕ, ◌&&◌, ◌*◌, ◌++◌, ◌+◌, ◌-◌, ◌/◌, ◌<◌, ◌==◌, ◌||◌, ◌∷◌, ◌≡◌, ◌≤◌}
-use Rattle.mc_boot.proofs.Courses.{drop_at_place}
+use Rattle.mc_boot.proofs.{Courses.{drop_at_place}, Joins.{IsJoined, Joins, are_equal, chosen, is_less, is_most, joined, less}}
+use Rattle.mc_boot.proofs.{Meets.{AreThere, BeginsIn, IsListed, IsRestOf, Meets, Sector, WritesIn, erase_of, all_weaker}, Transfers.{fits_at, there_is}}
 use Rattle.mc_boot.specs.facts.Lengths.{length-steps, length-transfers}
-use Rattle.mc_boot.proofs.Joins.{IsJoined, Joins, are_equal, chosen, is_less, is_most, joined, less}
-use Rattle.mc_boot.proofs.Meets.{AreThere, BeginsIn, IsListed, IsRestOf, Meets, Sector, WritesIn, erase_of, all_weaker}
-use Rattle.mc_boot.proofs.Transfers.{fits_at, there_is}
 use Rattle.mc_boot.specs.Boot.{IsBootOf, IsCold, Progress, all_saves, begun, course_list, list_from, progress, whole_list}
 use Rattle.mc_boot.specs.Joins.{IsCut, comes_to, erases_at, erases_of, is_same_grain, is_same_swap, kept_from, kept_of, harmless_opening_len, starts_as, harmless_transfer_len}
 use Rattle.mc_boot.specs.Outcome.{Report, at, left_by, ops_of, outcome_of}
 use Rattle.mc_boot.specs.Plan.{Plan, PowerOn, again, closing, copy_of, entry_of, from_transfer, image_ok_write, is_revert, is_test, marking, new_list, number_of, opening_writes, piece, plan, powered, preparation_writes, resumed_list, steps, swap_list, trailer_erase, trailer_erases, transfers, write}
-use Rattle.mc_boot.specs.declared.boot.Boot.{Boot}
-use Rattle.mc_boot.specs.declared.course.Course.{Course}
-use Rattle.mc_boot.specs.declared.course.Opening.{Opening}
-use Rattle.mc_boot.specs.declared.course.Opening.TheVariants.{New, Resumed}
-use Rattle.mc_boot.specs.declared.transfer.Transfer.{Transfer}
-use Rattle.mc_boot.specs.facts.Bounds.{plan_few, plan_saves}
+use Rattle.mc_boot.specs.{declared.boot.Boot.{Boot}, declared.course.Course.{Course}, declared.course.Opening.{Opening}}
+use Rattle.mc_boot.specs.{declared.course.Opening.TheVariants.{New, Resumed}, declared.transfer.Transfer.{Transfer}, facts.Bounds.{plan_few, plan_saves}}
 use Rattle.mc_boot.specs.facts.Run.{come_at}
-use Rattle.mc_flash.specs.Flash.{Content, IsSized, sectors_of, size_of}
-use Rattle.mc_flash.specs.Geometry.{Geometry, IsLayout, greatest_sectors, in_pieces, trailer_sectors}
-use Rattle.mc_flash.specs.Usage.{Seen, most_operations, most_saved}
-use Rattle.mc_flash.specs.declared.flash.Grain.{Grain}
-use Rattle.mc_flash.specs.declared.op.Op.{Op}
-use Rattle.mc_flash.specs.declared.op.Op.TheVariants.{Erase, Program}
-use Rattle.mc_flash.specs.declared.op.Slot.{Slot}
-use Rattle.mc_flash.specs.declared.op.Slot.TheVariants.{Primary, Secondary}
+use Rattle.mc_flash.specs.{Flash.{Content, IsSized, sectors_of, size_of}, Geometry.{Geometry, IsLayout, greatest_sectors, in_pieces, trailer_sectors}}
+use Rattle.mc_flash.specs.{Usage.{Seen, most_operations, most_saved}, declared.flash.Grain.{Grain}, declared.op.Op.{Op}}
+use Rattle.mc_flash.specs.{declared.op.Op.TheVariants.{Erase, Program}, declared.op.Slot.{Slot}, declared.op.Slot.TheVariants.{Primary, Secondary}}
 use Rattle.mc_flash.specs.facts.Layouts.{trailer_covered, trailer_leaves_one}
-use Rattle.mc_trailer.specs.Trailer.{before_end, one_unit, place, room}
-use Rattle.mc_trailer.specs.declared.places.Field.{Field}
-use Rattle.mc_trailer.specs.declared.tables.Rules.{Rules}
-use Rattle.mc_trailer.specs.declared.tables.SwapType.{SwapType}
-use Rattle.mc_trailer.specs.facts.Places.{most_before_end, one_unit_fits, place_inside}
-use Rattle.mc_trailer.specs.facts.Tables.{and_parts}
+use Rattle.mc_trailer.specs.{Trailer.{before_end, one_unit, place, room}, declared.places.Field.{Field}, declared.tables.Rules.{Rules}}
+use Rattle.mc_trailer.specs.{declared.tables.SwapType.{SwapType}, facts.Places.{most_before_end, one_unit_fits, place_inside}, facts.Tables.{and_parts}}
 use lib.Seq.{take_at}
 use Rattle.mc_trailer.specs.declared.places.Field.TheVariants as field
 use Rattle.mc_flash.specs.declared.flash.Grain.TheVariants as grains

@@ -1,21 +1,15 @@
 -- Operation number k of each list of operations, by either grain.
-use Rattle.std.proofs.Common.{ap, arith, zero-add, ◌∙◌, add-one}
-use Rattle.std.proofs.Math.Nat.{mul-le-mul_left, mul-le-mul_right, zero-mul}
+use Rattle.std.proofs.{Common.{ap, arith, zero-add, ◌∙◌, add-one}, Math.Nat.{mul-le-mul_left, mul-le-mul_right, zero-mul}}
 use Rattle.std.proofs.lemmas.List.FromFn.{length-map-range_with_len, length-range_with_len, get_or-range_with_len}
+use Rattle.std.proofs.lemmas.Option.{slice_get_within, get_or_from_slice_get, slice_get-get_or, slice_get-map}
 use Rattle.std.specs.List.{range_with_len}
 use Rattle.std.specs.Prelude.{IfSome, List, Option, Some, [], drop, flat_map, length, map, max, refl, slice_get, suc, zero, ℕ, ◌%◌, ◌*◌, ◌++◌, ◌+◌, ◌-◌, ◌/◌, ◌<◌, ◌^◌, ◌∷◌, ◌≡◌, ◌≤◌, option_map}
-use Rattle.mc_boot.specs.Boot.{IsInside}
-use Rattle.mc_boot.specs.Plan.{brought_in, copy_of, entry_of, moved_up, piece, steps, taken_out, transfers, write}
+use Rattle.mc_boot.specs.{Boot.{IsInside}, Plan.{brought_in, copy_of, entry_of, moved_up, piece, steps, taken_out, transfers, write}}
 use Rattle.mc_boot.specs.declared.transfer.Transfer.{Transfer}
-use Rattle.mc_flash.specs.Flash.{CanTry, IsRange, sectors_of, size_of}
-use Rattle.mc_flash.specs.Geometry.{Geometry, IsLayout, greatest_sectors, in_pieces, trailer_sectors}
-use Rattle.mc_flash.specs.declared.flash.Grain.{Grain}
-use Rattle.mc_flash.specs.declared.op.Op.{Op}
-use Rattle.mc_flash.specs.declared.op.Slot.{Slot}
+use Rattle.mc_flash.specs.{Flash.{CanTry, IsRange, sectors_of, size_of}, Geometry.{Geometry, IsLayout, greatest_sectors, in_pieces, trailer_sectors}}
+use Rattle.mc_flash.specs.{declared.flash.Grain.{Grain}, declared.op.Op.{Op}, declared.op.Slot.{Slot}}
 use Rattle.mc_flash.specs.facts.Layouts.{chunks_cover, trailer_covered, whole_add, whole_sector, whole_times}
-use Rattle.mc_trailer.specs.Trailer.{place}
-use Rattle.mc_trailer.specs.declared.places.Field.{Field}
-use Rattle.std.proofs.lemmas.Option.{slice_get_within, get_or_from_slice_get, slice_get-get_or, slice_get-map}
+use Rattle.mc_trailer.specs.{Trailer.{place}, declared.places.Field.{Field}}
 use lib.Seq.{drop-cons}
 use Rattle.mc_flash.specs.declared.flash.Grain.TheVariants as grains
 

@@ -1,30 +1,19 @@
 -- The starts of two images are flashes that a device can be delivered with.
-use Rattle.std.specs.Prelude.{◌≡◌, ℕ, zero, suc, ◌-◌, ◌≤◌, nat_lt, true, List, [], ◌∷◌, ◌++◌, length, replicate, take, slice_index, refl}
-use Rattle.std.specs.List.{list_all}
-use Rattle.std.proofs.Common.{arith, sym, ap, ◌∙◌}
-use Rattle.std.proofs.lemmas.Bool.{ltb-true}
-use Rattle.std.proofs.lemmas.List.{get_or-append_right, get_or_append_left, get_or_past}
+use Rattle.std.specs.{Prelude.{◌≡◌, ℕ, zero, suc, ◌-◌, ◌≤◌, nat_lt, true, List, [], ◌∷◌, ◌++◌, length, replicate, take, slice_index, refl}, List.{list_all}}
+use Rattle.std.proofs.{Common.{arith, sym, ap, ◌∙◌}, lemmas.Bool.{ltb-true}, lemmas.List.{get_or-append_right, get_or_append_left, get_or_past}}
 use Rattle.mc_boot.proofs.Images.{ImageLaws}
 use Rattle.mc_boot.proofs.Starts.{Holding, image_short, length-filled, primary_image, perm_holds, placed_holds, placed_unasked, test_holds}
 use Rattle.mc_boot.proofs.Wearing.{erased_bytes, put_bytes}
-use Rattle.mc_boot.specs.Plan.{image_size}
-use Rattle.mc_boot.specs.Life.{IsDelivered, StartsLaw, is_at_rest}
+use Rattle.mc_boot.specs.{Plan.{image_size}, Life.{IsDelivered, StartsLaw, is_at_rest}}
 use Rattle.mc_boot.specs.Restart.{BeginsImage, filled, image_bytes, perm_flash, placed, start_flash, test_flash}
 use Rattle.mc_boot.specs.declared.kind.Kind.TheVariants as starts
-use Rattle.mc_flash.specs.facts.Changes.{length-put, same_content}
-use Rattle.mc_flash.specs.Flash.{Content, put, size_of}
-use Rattle.mc_flash.specs.facts.Layouts.{data_before_trailer}
-use Rattle.mc_flash.specs.Geometry.{Geometry, IsLayout, fits}
-use Rattle.mc_flash.specs.declared.op.Slot.{Slot}
-use Rattle.mc_flash.specs.declared.op.Slot.TheVariants.{Primary, Secondary}
+use Rattle.mc_flash.specs.{facts.Changes.{length-put, same_content}, Flash.{Content, put, size_of}, facts.Layouts.{data_before_trailer}}
+use Rattle.mc_flash.specs.{Geometry.{Geometry, IsLayout, fits}, declared.op.Slot.{Slot}, declared.op.Slot.TheVariants.{Primary, Secondary}}
 use Rattle.mc_image.specs.Image.{IsBytes}
-use Rattle.mc_trailer.specs.facts.Fields.{reads_absent}
-use Rattle.mc_trailer.specs.facts.Places.{place_inside}
-use Rattle.mc_trailer.specs.Trailer.{trailer_of, magic_bytes, place}
+use Rattle.mc_trailer.specs.{facts.Fields.{reads_absent}, facts.Places.{place_inside}, Trailer.{trailer_of, magic_bytes, place}}
 use Rattle.mc_trailer.specs.declared.places.Field.TheVariants as field
 use Rattle.mc_trailer.specs.declared.trailer.Magic.TheVariants as magics
-use Rattle.mc_trailer.specs.declared.trailer.Trailer.{Trailer}
-use Rattle.mc_trailer.specs.facts.Tables.{and_parts}
+use Rattle.mc_trailer.specs.{declared.trailer.Trailer.{Trailer}, facts.Tables.{and_parts}}
 
 -- bytes, by a test of each
 small_each : (xs : List ℕ) → list_all (λ b. nat_lt b 256) xs ≡ true → IsBytes xs

@@ -1,14 +1,8 @@
 -- Sectors that are erased already: to erase them again changes nothing.
 use Rattle.std.specs.Prelude.{◌≡◌, ◌≢◌, ◌⊎◌, ℕ, zero, suc, ◌+◌, ◌*◌, ◌-◌, ◌<◌, ◌≤◌, true, List, [], ◌∷◌, length, replicate, take, drop, slice_index, refl}
 use Rattle.std.specs.List.{between, AllByRecursion}
-use Rattle.std.proofs.Common.{arith, sym, ap, subst, ◌∙◌, inl, inr}
-use Rattle.std.proofs.lemmas.Bool.{cases_lt}
-use Rattle.std.proofs.lemmas.Grind.{elements}
-use Rattle.std.proofs.lemmas.List.{length-replicate}
-use Rattle.mc_flash.specs.Geometry.{Geometry}
-use Rattle.mc_flash.specs.Flash.{is_blank, Content, byte, bytes_of}
-use Rattle.mc_flash.specs.facts.Changes.{Changed, range_blank}
-use Rattle.mc_flash.specs.declared.op.Slot.{Slot}
+use Rattle.std.proofs.{Common.{arith, sym, ap, subst, ◌∙◌, inl, inr}, lemmas.Bool.{cases_lt}, lemmas.Grind.{elements}, lemmas.List.{length-replicate}}
+use Rattle.mc_flash.specs.{Geometry.{Geometry}, Flash.{is_blank, Content, byte, bytes_of}, facts.Changes.{Changed, range_blank}, declared.op.Slot.{Slot}}
 use Rattle.mc_flash.specs.declared.op.Slot.TheVariants.{Primary, Secondary}
 use Rattle.mc_boot.proofs.Meets.{blank, erase_in, erases, Fit, fit_longer, same_bytes, same_content, which_slot, Sector, all_weaker}
 

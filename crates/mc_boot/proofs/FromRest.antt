@@ -1,47 +1,28 @@
 -- From rest to rest: what a confirmation leaves, reverts, and what cuts and a boot leave of a flash at rest, which rests again.
-use Rattle.std.proofs.Common.{ap, arith, inl, inr, subst, sym, ◌∙◌}
-use Rattle.std.proofs.Math.Nat.{mul-le-mul_right}
-use Rattle.std.proofs.lemmas.Bool.{cases_lt}
-use Rattle.std.proofs.lemmas.Grind.{div_ceil_times}
+use Rattle.std.proofs.{Common.{ap, arith, inl, inr, subst, sym, ◌∙◌}, Math.Nat.{mul-le-mul_right}, lemmas.Bool.{cases_lt}, lemmas.Grind.{div_ceil_times}}
 use Rattle.std.proofs.lemmas.List.Edits.{get_or-between}
 use Rattle.std.specs.List.{range_with_len}
 use Rattle.std.specs.Prelude.{Bool, List, Option, Some, [], false, if◌then◌else◌, length, map, refl, replicate, slice_index, true, ℕ, ◌&&◌, ◌*◌, ◌++◌, ◌+◌, ◌-◌, ◌<◌, ◌∷◌, ◌≡◌, ◌≢◌, ◌≤◌, ◌⊎◌}
-use Rattle.mc_boot.proofs.AtRest.{AtRest, Idles, Wants, rests_or_wants}
-use Rattle.mc_boot.proofs.Courses.{some_trailer}
-use Rattle.mc_boot.proofs.Images.{ImageLaws, SameImage}
+use Rattle.mc_boot.proofs.{AtRest.{AtRest, Idles, Wants, rests_or_wants}, Courses.{some_trailer}, Images.{ImageLaws, SameImage}}
 use Rattle.mc_boot.proofs.InPieces.{Steps, cycle, exchanged_pieces, keeps_more, pieces_again, plan_in_pieces, sized_whole, steps_by, swap_pieces, fields_pieces, fields_whole}
-use Rattle.mc_boot.proofs.Keeps.{Erased, Keeps, erase_inside}
-use Rattle.mc_boot.proofs.Meets.{same_bytes, same_content as equal_content, which_slot}
-use Rattle.mc_boot.proofs.Moving.{data_begin}
+use Rattle.mc_boot.proofs.{Keeps.{Erased, Keeps, erase_inside}, Meets.{same_bytes, same_content as equal_content, which_slot}, Moving.{data_begin}}
 use Rattle.mc_boot.proofs.Phases.{Ended, Phase, MagicUnset, Swap, Waiting, asked, asked_from, asks, larger_size, new_is, not_when_done, plan_tested, magic_unset_reverts, starting, swap_of, tested, tested_from, unasked, no_panic}
 use Rattle.mc_boot.proofs.Starts.{count_of, swap_between}
 use Rattle.mc_boot.proofs.SwapEnds.{Crossed, Nothing, asked_boots, asked_swaps, crossed, exchanges, prefix_at_start, image_there, running_swaps, sees_start, settled_end, settled_on, tested_end, tested_fields, tested_on, Swaps}
 use Rattle.mc_boot.proofs.SwapsKeep.{data_erased, magic_unset_blank, revert_keeps, magic_erased}
-use Rattle.mc_boot.specs.Life.{DeviceState, EndsWell, Forgets, Leaves, LeavesBytes, booted, booted_by, device_state, is_at_rest, is_on_trial}
-use Rattle.mc_boot.specs.Outcome.{after}
+use Rattle.mc_boot.specs.{Life.{DeviceState, EndsWell, Forgets, Leaves, LeavesBytes, booted, booted_by, device_state, is_at_rest, is_on_trial}, Outcome.{after}}
 use Rattle.mc_boot.specs.Plan.{Plan, PowerOn, new_list, nothing, plan, power_on, trailer_erase}
 use Rattle.mc_boot.specs.Restart.{AreExchanged, IsSettled, confirmed, confirmed_if, forgets_reverts, may_confirm}
 use Rattle.mc_flash.specs.Flash.{Content, IsSized, apply, byte, is_blank, sectors_of}
-use Rattle.mc_flash.specs.Geometry.{Geometry, IsLayout, greatest_sectors, in_pieces, trailer_sectors}
-use Rattle.mc_flash.specs.declared.flash.Grain.{Grain}
-use Rattle.mc_flash.specs.declared.op.Op.{Op}
-use Rattle.mc_flash.specs.declared.op.Op.TheVariants.{Erase}
-use Rattle.mc_flash.specs.declared.op.Slot.{Slot}
-use Rattle.mc_flash.specs.declared.op.Slot.TheVariants.{Primary, Secondary}
-use Rattle.mc_flash.specs.facts.Changes.{Changed, blank_range, erase_changes, sized_is}
-use Rattle.mc_flash.specs.facts.Layouts.{small_unit}
+use Rattle.mc_flash.specs.{Geometry.{Geometry, IsLayout, greatest_sectors, in_pieces, trailer_sectors}, declared.flash.Grain.{Grain}, declared.op.Op.{Op}}
+use Rattle.mc_flash.specs.{declared.op.Op.TheVariants.{Erase}, declared.op.Slot.{Slot}, declared.op.Slot.TheVariants.{Primary, Secondary}}
+use Rattle.mc_flash.specs.{facts.Changes.{Changed, blank_range, erase_changes, sized_is}, facts.Layouts.{small_unit}}
 use Rattle.mc_image.specs.Valid.{Identity, id_of, is_valid}
-use Rattle.mc_trailer.specs.Tables.{asks_perm, asks_revert, asks_test, is_good, is_set, is_unset, reverts_at}
-use Rattle.mc_trailer.specs.Trailer.{bytes_at, one_unit, place, trailer_of}
-use Rattle.mc_trailer.specs.declared.tables.Profile.{Profile}
-use Rattle.mc_trailer.specs.declared.tables.Rules.{Rules}
-use Rattle.mc_trailer.specs.declared.tables.SwapType.{SwapType}
-use Rattle.mc_trailer.specs.declared.trailer.Flag.{Flag}
-use Rattle.mc_trailer.specs.declared.trailer.Magic.{Magic}
-use Rattle.mc_trailer.specs.declared.trailer.Trailer.{Trailer}
+use Rattle.mc_trailer.specs.{Tables.{asks_perm, asks_revert, asks_test, is_good, is_set, is_unset, reverts_at}, Trailer.{bytes_at, one_unit, place, trailer_of}}
+use Rattle.mc_trailer.specs.{declared.tables.Profile.{Profile}, declared.tables.Rules.{Rules}, declared.tables.SwapType.{SwapType}}
+use Rattle.mc_trailer.specs.{declared.trailer.Flag.{Flag}, declared.trailer.Magic.{Magic}, declared.trailer.Trailer.{Trailer}}
 use Rattle.mc_trailer.specs.facts.Fields.{FieldIs, FieldsAre, blank_byte, blank_field, field_as, fields_same, reads_absent, reads_copy_done, reads_good, reads_image_ok, reads_not_good}
-use Rattle.mc_trailer.specs.facts.Places.{field_ends}
-use Rattle.mc_trailer.specs.facts.Tables.{types_are_rows, and_parts}
+use Rattle.mc_trailer.specs.{facts.Places.{field_ends}, facts.Tables.{types_are_rows, and_parts}}
 use Rattle.mc_trailer.specs.declared.places.Field.TheVariants as field
 use Rattle.mc_trailer.specs.declared.trailer.Flag.TheVariants as flags
 use Rattle.mc_trailer.specs.declared.tables.SwapType.TheVariants as kinds

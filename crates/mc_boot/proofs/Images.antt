@@ -1,19 +1,13 @@
 -- The images that slots hold, and when two flashes hold the same.
-use Rattle.std.proofs.Common.{ap, arith, sym, ◌∙◌}
-use Rattle.std.proofs.lemmas.Grind.{same_number_lists}
-use Rattle.std.proofs.lemmas.List.{get_or-take, length-take-le}
+use Rattle.std.proofs.{Common.{ap, arith, sym, ◌∙◌}, lemmas.Grind.{same_number_lists}, lemmas.List.{get_or-take, length-take-le}}
 use Rattle.std.proofs.lemmas.Slice.Eq.{bytes_eq-Decides}
 use Rattle.std.specs.Option.{is_some}
 use Rattle.std.specs.Prelude.{Bool, List, None, Option, Some, false, if◌then◌else◌, is_none, length, max, option_map, refl, slice_index, take, true, ℕ, ◌&&◌, ◌<◌, ◌≡◌, ◌≤◌}
-use Rattle.mc_boot.specs.Plan.{identity_of, image_size, images_of}
-use Rattle.mc_boot.specs.declared.image.Held.{Held}
-use Rattle.mc_boot.specs.declared.image.ImageId.{ImageId}
-use Rattle.mc_boot.specs.declared.image.Images.{Images}
-use Rattle.mc_boot.specs.facts.Sizes.{size_read}
+use Rattle.mc_boot.specs.{Plan.{identity_of, image_size, images_of}, declared.image.Held.{Held}, declared.image.ImageId.{ImageId}}
+use Rattle.mc_boot.specs.{declared.image.Images.{Images}, facts.Sizes.{size_read}}
 use Rattle.mc_flash.specs.Flash.{Content}
 use Rattle.mc_image.specs.Image.{Begins, Image, IsBytes, IsGood, covered_text, digest_of, header_text, image_in, image_text}
-use Rattle.mc_image.specs.Valid.{Identity, first_fault, id_of, identity, is_good, is_valid}
-use Rattle.mc_image.specs.declared.error.ImageError.{ImageError}
+use Rattle.mc_image.specs.{Valid.{Identity, first_fault, id_of, identity, is_good, is_valid}, declared.error.ImageError.{ImageError}}
 use Rattle.mc_image.specs.facts.Valid.{prefix_within}
 use Rattle.sha2.specs.Sha256.{sha256}
 

@@ -1,27 +1,14 @@
 -- Both grains by one proof, and boots that keep a phase until the swap ends, after any list of cuts.
 use Rattle.std.proofs.Common.{ap, subst, sym, ◌∙◌}
 use Rattle.std.specs.Prelude.{Bool, List, Some, [], refl, true, ℕ, ◌∷◌, ◌≡◌, ◌≢◌}
-use Rattle.mc_boot.proofs.Keeps.{Keeps, boots_so, ends, restart}
-use Rattle.mc_boot.proofs.Moving.{data_begin}
-use Rattle.mc_boot.proofs.Phases.{Asked, Swap, asked}
-use Rattle.mc_boot.specs.Life.{EndsWell}
-use Rattle.mc_boot.specs.Outcome.{after}
-use Rattle.mc_boot.specs.Plan.{Plan, PowerOn, plan, plan_with, power_on}
-use Rattle.mc_boot.specs.Restart.{AreExchanged}
-use Rattle.mc_flash.specs.Flash.{Content, IsSized, apply}
-use Rattle.mc_flash.specs.Geometry.{Geometry, in_pieces}
-use Rattle.mc_flash.specs.declared.flash.Grain.{Grain}
-use Rattle.mc_flash.specs.declared.op.Op.{Op}
-use Rattle.mc_flash.specs.declared.op.Op.TheVariants.{Erase}
-use Rattle.mc_flash.specs.declared.op.Slot.TheVariants.{Primary, Secondary}
-use Rattle.mc_flash.specs.facts.Pieces.{pieces_layout}
-use Rattle.mc_image.specs.Valid.{is_valid}
-use Rattle.mc_trailer.specs.Trailer.{trailer_of}
-use Rattle.mc_trailer.specs.declared.places.Field.{Field}
-use Rattle.mc_trailer.specs.declared.tables.Profile.{Profile}
-use Rattle.mc_trailer.specs.declared.tables.Rules.{Rules}
-use Rattle.mc_trailer.specs.facts.Fields.{FieldsAre}
+use Rattle.mc_boot.proofs.{Keeps.{Keeps, boots_so, ends, restart}, Moving.{data_begin}, Phases.{Asked, Swap, asked}}
+use Rattle.mc_boot.specs.{Life.{EndsWell}, Outcome.{after}, Plan.{Plan, PowerOn, plan, plan_with, power_on}, Restart.{AreExchanged}}
+use Rattle.mc_flash.specs.{Flash.{Content, IsSized, apply}, Geometry.{Geometry, in_pieces}, declared.flash.Grain.{Grain}, declared.op.Op.{Op}}
+use Rattle.mc_flash.specs.{declared.op.Op.TheVariants.{Erase}, declared.op.Slot.TheVariants.{Primary, Secondary}, facts.Pieces.{pieces_layout}}
 use Rattle.mc_flash.specs.declared.op.Slot.{Slot}
+use Rattle.mc_image.specs.Valid.{is_valid}
+use Rattle.mc_trailer.specs.{Trailer.{trailer_of}, declared.places.Field.{Field}, declared.tables.Profile.{Profile}, declared.tables.Rules.{Rules}}
+use Rattle.mc_trailer.specs.facts.Fields.{FieldsAre}
 use Rattle.mc_flash.specs.declared.flash.Grain.TheVariants as grains
 use Rattle.mc_trailer.specs.declared.tables.SwapType.TheVariants as kinds
 

@@ -1,23 +1,14 @@
 -- Two boots that end alike.
-use Rattle.std.proofs.Common.{ap, arith, length-append, sym, ◌∙◌}
-use Rattle.std.proofs.Math.Seq.{take-add, take-length}
-use Rattle.std.proofs.lemmas.Bool.Decides.{nat_tests}
+use Rattle.std.proofs.{Common.{ap, arith, length-append, sym, ◌∙◌}, Math.Seq.{take-add, take-length}, lemmas.Bool.Decides.{nat_tests}}
 use Rattle.std.proofs.lemmas.List.{length-drop, length-take, length-take-le}
-use Rattle.std.specs.Bool.{beq}
-use Rattle.std.specs.List.{AllByRecursion}
+use Rattle.std.specs.{Bool.{beq}, List.{AllByRecursion}}
 use Rattle.std.specs.Prelude.{Bool, List, None, Option, Some, [], drop, false, if◌then◌else◌, length, map, nat_le, nat_lt, option_and_then, option_map, refl, suc, take, true, ℕ, ◌++◌, ◌+◌, ◌-◌, ◌<◌, ◌==◌, ◌∷◌, ◌≡◌, ◌≤◌}
 use Rattle.mc_boot.proofs.Meets.{AreThere, Fit, Sector, WritesIn, blank, erase_in, erase_of, fit_longer, fit_there, op_blanked, op_longer}
 use Rattle.mc_boot.specs.Outcome.{Report, applied, at, first_then, happening, is_faulted, is_panic, left_by, ops_of, outcome_of, report}
-use Rattle.mc_boot.specs.Plan.{Plan, PowerOn, again, new_plan, plan, plan_with}
-use Rattle.mc_boot.specs.declared.image.Images.{Images}
-use Rattle.mc_boot.specs.facts.Run.{happening_prefix, left_defined}
-use Rattle.mc_flash.specs.Flash.{Content, IsSized, apply, bytes_of}
-use Rattle.mc_flash.specs.Geometry.{Geometry}
-use Rattle.mc_flash.specs.declared.flash.Grain.{Grain}
-use Rattle.mc_flash.specs.declared.op.Op.{Op}
+use Rattle.mc_boot.specs.{Plan.{Plan, PowerOn, again, new_plan, plan, plan_with}, declared.image.Images.{Images}, facts.Run.{happening_prefix, left_defined}}
+use Rattle.mc_flash.specs.{Flash.{Content, IsSized, apply, bytes_of}, Geometry.{Geometry}, declared.flash.Grain.{Grain}, declared.op.Op.{Op}}
 use Rattle.mc_flash.specs.declared.op.Slot.{Slot}
-use Rattle.mc_trailer.specs.declared.tables.Rules.{Rules}
-use Rattle.mc_trailer.specs.declared.tables.SwapType.{SwapType}
+use Rattle.mc_trailer.specs.{declared.tables.Rules.{Rules}, declared.tables.SwapType.{SwapType}}
 
 -- What tests show where they hold.
 

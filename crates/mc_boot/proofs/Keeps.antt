@@ -1,28 +1,18 @@
 -- What operations keep: a phase, operation by operation, through erases, writes in pieces and boots that are not cut.
-use Rattle.std.proofs.Common.{ap, arith, inl, inr, subst, sym, ◌∙◌, zero-add}
-use Rattle.std.proofs.Math.Nat.{mod-add-div', mul-le-mul_right, zero-mul}
-use Rattle.std.proofs.lemmas.Bool.{cases_lt}
-use Rattle.std.proofs.lemmas.Bool.Decides.{nat_tests}
-use Rattle.std.proofs.lemmas.List.{get_or-replicate, get_or-take, length-replicate, length-take-le}
+use Rattle.std.proofs.{Common.{ap, arith, inl, inr, subst, sym, ◌∙◌, zero-add}, Math.Nat.{mod-add-div', mul-le-mul_right, zero-mul}, lemmas.Bool.{cases_lt}}
+use Rattle.std.proofs.{lemmas.Bool.Decides.{nat_tests}, lemmas.List.{get_or-replicate, get_or-take, length-replicate, length-take-le}}
 use Rattle.std.proofs.lemmas.List.Edits.{get_or-between, length-between}
 use Rattle.std.specs.List.{between, range_with_len}
 use Rattle.std.specs.Prelude.{Bool, List, None, Some, [], false, if◌then◌else◌, length, map, nat_lt, option_and_then, option_map, refl, replicate, slice_index, suc, take, true, zero, ℕ, ◌%◌, ◌*◌, ◌++◌, ◌+◌, ◌-◌, ◌/◌, ◌<◌, ◌∷◌, ◌≡◌, ◌≢◌, ◌≤◌}
 use Rattle.mc_boot.specs.Outcome.{after, applied, at, first_then, happening, is_faulted, left_by, ops_of, outcome_of, report}
 use Rattle.mc_boot.specs.Plan.{PowerOn, piece, plan, power_on, trailer_erase, trailer_erases, write}
-use Rattle.mc_flash.specs.Flash.{Content, IsSized, apply, byte, bytes_of, sectors_of, size_of}
-use Rattle.mc_flash.specs.Geometry.{Geometry, IsLayout, trailer_sectors}
-use Rattle.mc_flash.specs.declared.flash.Grain.{Grain}
-use Rattle.mc_flash.specs.declared.op.Op.{Op}
-use Rattle.mc_flash.specs.declared.op.Op.TheVariants.{Program}
-use Rattle.mc_flash.specs.declared.op.Slot.{Slot}
+use Rattle.mc_flash.specs.{Flash.{Content, IsSized, apply, byte, bytes_of, sectors_of, size_of}, Geometry.{Geometry, IsLayout, trailer_sectors}}
+use Rattle.mc_flash.specs.{declared.flash.Grain.{Grain}, declared.op.Op.{Op}, declared.op.Op.TheVariants.{Program}, declared.op.Slot.{Slot}}
 use Rattle.mc_flash.specs.facts.Changes.{Changed, erase_changes, program_changes, sized_is}
 use Rattle.mc_flash.specs.facts.Layouts.{data_end, sector_inside, trailer_leaves_one, trailer_sector_beyond_data}
 use Rattle.mc_image.specs.Valid.{is_valid}
-use Rattle.mc_trailer.specs.Trailer.{place, room}
-use Rattle.mc_trailer.specs.declared.places.Field.{Field}
-use Rattle.mc_trailer.specs.declared.tables.Rules.{Rules}
-use Rattle.mc_trailer.specs.facts.Fields.{FieldIs, blank_byte, field_write}
-use Rattle.mc_trailer.specs.facts.Places.{field_beyond_data, field_ends}
+use Rattle.mc_trailer.specs.{Trailer.{place, room}, declared.places.Field.{Field}, declared.tables.Rules.{Rules}}
+use Rattle.mc_trailer.specs.{facts.Fields.{FieldIs, blank_byte, field_write}, facts.Places.{field_beyond_data, field_ends}}
 use borrow.Author.Tests.{ltb-true}
 use lib.Seq.{take-length, take_all}
 use Rattle.mc_flash.specs.declared.flash.Grain.TheVariants as grains

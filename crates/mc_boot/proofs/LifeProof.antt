@@ -1,29 +1,19 @@
 -- The life law.
 use Rattle.std.specs.Prelude.{◌≡◌, ◌⊎◌, ℕ, ◌*◌, ◌<◌, ◌≤◌, slice_index, ◌&&◌, ◌-◌, Bool, true, false, if◌then◌else◌, List, [], ◌∷◌, ◌++◌, replicate, Option, Some, None, option_and_then, option_map, refl, length}
 use Rattle.std.specs.Int.{div_ceil}
-use Rattle.std.proofs.Common.{arith, sym, ap, subst, ◌∙◌}
-use Rattle.std.proofs.lemmas.Grind.{div_ceil_times}
-use Rattle.std.proofs.Math.Nat.{mul-le-mul_right}
-use Rattle.mc_boot.proofs.AtRest.{AtRest, next_is}
-use Rattle.mc_boot.proofs.Images.{HasImage, ImageLaws, SameImage, has_same, same_image}
+use Rattle.std.proofs.{Common.{arith, sym, ap, subst, ◌∙◌}, lemmas.Grind.{div_ceil_times}, Math.Nat.{mul-le-mul_right}}
+use Rattle.mc_boot.proofs.{AtRest.{AtRest, next_is}, Images.{HasImage, ImageLaws, SameImage, has_same, same_image}}
 use Rattle.mc_boot.proofs.FromRest.{done_rests, no_trial, rest_law, same_names, set_of}
-use Rattle.mc_boot.specs.Restart.{confirmed, may_confirm}
-use Rattle.mc_boot.specs.Plan.{image_size, PowerOn, power_on, plan}
+use Rattle.mc_boot.specs.{Restart.{confirmed, may_confirm}, Plan.{image_size, PowerOn, power_on, plan}}
 use Rattle.mc_boot.specs.Life.{AreSecondary, Event, Forgets, AllStored, IsDelivered, Leads, LifeLaw, Lives, Moment, NextLaw, OnlyLaw, Predicts, Leaves, asked_of, can_swap, confirmed_by, done_or_fails, is_boot, is_on_trial, resting, device_state, starts_image, cut, boot, store, confirm, mark}
 use Rattle.mc_boot.specs.Outcome.{Report, outcome_of, after, cut_at}
 use Rattle.mc_boot.specs.declared.outcome.BootResult.TheVariants as results
-use Rattle.mc_flash.specs.Flash.{is_blank, Content, put, with_bytes}
-use Rattle.mc_flash.specs.facts.Changes.{Changed, changed, changed_sized, same_content, sized_is}
-use Rattle.mc_flash.specs.facts.Layouts.{fits_few}
-use Rattle.mc_flash.specs.Geometry.{Geometry, IsLayout, greatest_sectors}
-use Rattle.mc_flash.specs.declared.op.Slot.TheVariants.{Primary, Secondary}
-use Rattle.mc_image.specs.Image.{IsBytes}
-use Rattle.mc_image.specs.Valid.{Identity, id_of, is_valid}
+use Rattle.mc_flash.specs.{Flash.{is_blank, Content, put, with_bytes}, facts.Changes.{Changed, changed, changed_sized, same_content, sized_is}}
+use Rattle.mc_flash.specs.{facts.Layouts.{fits_few}, Geometry.{Geometry, IsLayout, greatest_sectors}, declared.op.Slot.TheVariants.{Primary, Secondary}}
+use Rattle.mc_image.specs.{Image.{IsBytes}, Valid.{Identity, id_of, is_valid}}
 use Rattle.mc_trailer.specs.declared.tables.SwapType.TheVariants as kinds
-use Rattle.mc_trailer.specs.facts.Fields.{field_kept_beside, reads_image_ok, same_copy_done, written_field}
-use Rattle.mc_trailer.specs.facts.Places.{field_ends, one_unit_fits}
-use Rattle.mc_trailer.specs.Trailer.{bytes_at, one_unit, trailer_of, place, room}
-use Rattle.mc_trailer.specs.Tables.{is_good, is_set}
+use Rattle.mc_trailer.specs.{facts.Fields.{field_kept_beside, reads_image_ok, same_copy_done, written_field}, facts.Places.{field_ends, one_unit_fits}}
+use Rattle.mc_trailer.specs.{Trailer.{bytes_at, one_unit, trailer_of, place, room}, Tables.{is_good, is_set}}
 use Rattle.mc_trailer.specs.declared.places.Field.TheVariants as field
 use Rattle.mc_trailer.specs.declared.tables.Rules.{Rules}
 use Rattle.mc_trailer.specs.declared.trailer.Flag.TheVariants as flags

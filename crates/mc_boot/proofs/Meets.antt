@@ -1,14 +1,10 @@
 -- Where operations write, and contents that are alike once sectors are erased.
-use Rattle.std.proofs.Common.{arith, inl, inr, length-append, subst, sym, ◌∙◌}
-use Rattle.std.proofs.lemmas.Bool.{cases_lt}
+use Rattle.std.proofs.{Common.{arith, inl, inr, length-append, subst, sym, ◌∙◌}, lemmas.Bool.{cases_lt}}
 use Rattle.std.proofs.lemmas.List.{get_or_default, length-drop, length-replicate, length-take, same_lists}
 use Rattle.std.specs.List.{AllByRecursion, between}
 use Rattle.std.specs.Prelude.{Bool, List, None, Some, [], drop, false, if◌then◌else◌, length, map, replicate, take, true, ℕ, ◌*◌, ◌+◌, ◌-◌, ◌<◌, ◌∷◌, ◌≡◌, ◌≢◌, ◌≤◌, ◌⊎◌}
 use Rattle.mc_flash.specs.Flash.{Content, IsSized, apply, byte, bytes_of, erased, in_slot, is_blank, programmed, put, sectors_of, with_bytes}
-use Rattle.mc_flash.specs.Geometry.{Geometry}
-use Rattle.mc_flash.specs.declared.op.Op.{Op}
-use Rattle.mc_flash.specs.declared.op.Op.TheVariants.{Copy, Erase, Program}
-use Rattle.mc_flash.specs.declared.op.Slot.{Slot}
+use Rattle.mc_flash.specs.{Geometry.{Geometry}, declared.op.Op.{Op}, declared.op.Op.TheVariants.{Copy, Erase, Program}, declared.op.Slot.{Slot}}
 use Rattle.mc_flash.specs.declared.op.Slot.TheVariants.{Primary, Secondary}
 use Rattle.mc_flash.specs.facts.Changes.{Changed, changed, copied, program_changes, program_was_blank, same_content as one_content, sized_is}
 use Rattle.mc_flash.specs.facts.Layouts.{sector_inside}

@@ -1,27 +1,16 @@
 -- A transfer whole and in pieces, and the bytes of the sectors on the way of a swap.
-use Rattle.std.proofs.Common.{add_assoc, ap, arith, inl, inr, subst, sym, ◌∙◌, zero-add}
-use Rattle.std.proofs.Math.Nat.{mul-le-mul_right}
-use Rattle.std.proofs.lemmas.Bool.{cases_eq, cases_lt}
-use Rattle.std.proofs.lemmas.List.{length-replicate, get_or-replicate}
-use Rattle.std.proofs.lemmas.List.Edits.{get_or-between, length-between}
-use Rattle.std.specs.List.{between, range_with_len}
-use Rattle.std.specs.Prelude.{List, Some, [], length, map, refl, slice_get, ℕ, ◌*◌, ◌+◌, ◌-◌, ◌/◌, ◌<◌, ◌∷◌, ◌≡◌, ◌≤◌, ◌⊎◌}
-use Rattle.mc_boot.proofs.Courses.{can_chunk}
-use Rattle.mc_boot.proofs.Keeps.{Keeps, keeps_append, keeps_range}
+use Rattle.std.proofs.{Common.{add_assoc, ap, arith, inl, inr, subst, sym, ◌∙◌, zero-add}, Math.Nat.{mul-le-mul_right}, lemmas.Bool.{cases_eq, cases_lt}}
+use Rattle.std.proofs.{lemmas.List.{length-replicate, get_or-replicate}, lemmas.List.Edits.{get_or-between, length-between}}
+use Rattle.std.specs.{List.{between, range_with_len}, Prelude.{List, Some, [], length, map, refl, slice_get, ℕ, ◌*◌, ◌+◌, ◌-◌, ◌/◌, ◌<◌, ◌∷◌, ◌≡◌, ◌≤◌, ◌⊎◌}}
+use Rattle.mc_boot.proofs.{Courses.{can_chunk}, Keeps.{Keeps, keeps_append, keeps_range}}
 use Rattle.mc_boot.proofs.Transfers.{Fits, Held, fits_at, held_after, held_at, held_begin, held_here, held_next, held_there, same_transfer}
-use Rattle.mc_boot.specs.Boot.{IsInside}
-use Rattle.mc_boot.specs.Plan.{copy_of, entry_of, steps, transfers}
-use Rattle.mc_boot.specs.declared.transfer.Transfer.{Transfer}
-use Rattle.mc_flash.specs.Flash.{Content, IsSized, apply, byte, bytes_of, sectors_of}
-use Rattle.mc_flash.specs.Geometry.{Geometry, IsLayout, greatest_sectors}
-use Rattle.mc_flash.specs.declared.op.Op.TheVariants.{Copy, Erase}
-use Rattle.mc_flash.specs.declared.op.Slot.{Slot}
-use Rattle.mc_flash.specs.declared.op.Slot.TheVariants.{Primary}
+use Rattle.mc_boot.proofs.Meets.{which_slot}
+use Rattle.mc_boot.specs.{Boot.{IsInside}, Plan.{copy_of, entry_of, steps, transfers}, declared.transfer.Transfer.{Transfer}}
+use Rattle.mc_flash.specs.{Flash.{Content, IsSized, apply, byte, bytes_of, sectors_of}, Geometry.{Geometry, IsLayout, greatest_sectors}}
+use Rattle.mc_flash.specs.{declared.op.Op.TheVariants.{Copy, Erase}, declared.op.Slot.{Slot}, declared.op.Slot.TheVariants.{Primary}}
 use Rattle.mc_flash.specs.facts.Changes.{Changed, changed_sized, copied, copy_is_program, erase_changes, length-copied, program_changes, sized_is}
 use Rattle.mc_flash.specs.facts.Layouts.{chunks_cover, data_end, data_sectors}
-use Rattle.mc_trailer.specs.Trailer.{entry_place, one_unit, room}
-use Rattle.mc_trailer.specs.facts.Places.{entry_ends, one_unit_len}
-use Rattle.mc_boot.proofs.Meets.{which_slot}
+use Rattle.mc_trailer.specs.{Trailer.{entry_place, one_unit, room}, facts.Places.{entry_ends, one_unit_len}}
 
 -- A transfer, byte by byte.
 

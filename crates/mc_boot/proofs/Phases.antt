@@ -1,32 +1,19 @@
 -- The phases of a swap, the plan of the boot in each, and fields by what is read of them.
-use Rattle.std.proofs.Common.{ap, arith, inl, inr, sym, ◌∙◌}
-use Rattle.std.proofs.lemmas.Bool.Decides.{nat_tests}
-use Rattle.std.proofs.lemmas.List.Edits.{get_or-between}
+use Rattle.std.proofs.{Common.{ap, arith, inl, inr, sym, ◌∙◌}, lemmas.Bool.Decides.{nat_tests}, lemmas.List.Edits.{get_or-between}}
 use Rattle.std.proofs.lemmas.Slice.Eq.{bytes_eq-Decides}
 use Rattle.std.specs.Int.{div_ceil}
 use Rattle.std.specs.Prelude.{Bool, List, Option, Some, [], bytes_eq, false, if◌then◌else◌, is_none, max, refl, replicate, suc, true, zero, ℕ, ◌*◌, ◌+◌, ◌-◌, ◌<◌, ◌==◌, ◌^◌, ◌∷◌, ◌≡◌, ◌≤◌, ◌⊎◌, ◌≢◌}
-use Rattle.mc_boot.proofs.Images.{HasImage, ImageLaws}
-use Rattle.mc_boot.proofs.Moving.{Data}
-use Rattle.mc_boot.proofs.Plans.{plan_new, plan_resumed}
+use Rattle.mc_boot.proofs.{Images.{HasImage, ImageLaws}, Moving.{Data}, Plans.{plan_new, plan_resumed}}
 use Rattle.mc_boot.proofs.Transfers.{Entries, entries_last, entries_not, left_at, other_number}
 use Rattle.mc_boot.specs.Plan.{Plan, PowerOn, again, confirms, first_left, image_size, images_of, is_test, new_list, new_plan, new_swap, nothing, number_of, plan, resumed_list, resumed_plan}
-use Rattle.mc_boot.specs.Restart.{forgets_reverts}
-use Rattle.mc_boot.specs.declared.image.Images.{Images}
-use Rattle.mc_flash.specs.Flash.{Content, IsSized, byte, is_blank}
-use Rattle.mc_flash.specs.Geometry.{Geometry, IsLayout, greatest_sectors, in_pieces}
-use Rattle.mc_flash.specs.declared.flash.Grain.{Grain}
-use Rattle.mc_flash.specs.declared.op.Slot.{Slot}
-use Rattle.mc_flash.specs.declared.op.Slot.TheVariants.{Primary, Secondary}
-use Rattle.mc_flash.specs.facts.Changes.{sized_is}
+use Rattle.mc_boot.specs.{Restart.{forgets_reverts}, declared.image.Images.{Images}}
+use Rattle.mc_flash.specs.{Flash.{Content, IsSized, byte, is_blank}, Geometry.{Geometry, IsLayout, greatest_sectors, in_pieces}, declared.flash.Grain.{Grain}}
+use Rattle.mc_flash.specs.{declared.op.Slot.{Slot}, declared.op.Slot.TheVariants.{Primary, Secondary}, facts.Changes.{sized_is}}
 use Rattle.mc_image.specs.Valid.{is_valid}
 use Rattle.mc_trailer.specs.Tables.{is_resumed, resumes, reverts_at, swap_type, table_of}
-use Rattle.mc_trailer.specs.Trailer.{flag_of, highest_entry, magic_bytes, magic_of, one_unit, place, size_bytes, trailer_of}
-use Rattle.mc_trailer.specs.declared.places.Field.{Field}
-use Rattle.mc_trailer.specs.declared.tables.Profile.{Profile}
-use Rattle.mc_trailer.specs.declared.tables.SwapType.{SwapType}
-use Rattle.mc_trailer.specs.declared.trailer.Flag.{Flag}
-use Rattle.mc_trailer.specs.declared.trailer.Magic.{Magic}
-use Rattle.mc_trailer.specs.declared.trailer.Trailer.{Trailer}
+use Rattle.mc_trailer.specs.{Trailer.{flag_of, highest_entry, magic_bytes, magic_of, one_unit, place, size_bytes, trailer_of}, declared.places.Field.{Field}}
+use Rattle.mc_trailer.specs.{declared.tables.Profile.{Profile}, declared.tables.SwapType.{SwapType}, declared.trailer.Flag.{Flag}}
+use Rattle.mc_trailer.specs.{declared.trailer.Magic.{Magic}, declared.trailer.Trailer.{Trailer}}
 use Rattle.mc_trailer.specs.facts.Fields.{FieldIs, FieldsAre, blank_fields, field_as, reads_absent, reads_copy_done, reads_good, reads_image_ok, reads_info, reads_not_good, reads_size}
 use Rattle.mc_trailer.specs.declared.places.Field.TheVariants as field
 use Rattle.mc_trailer.specs.declared.trailer.Flag.TheVariants as flags

@@ -2,28 +2,17 @@
 use Rattle.std.proofs.Common.{Fits, add-zero, ap, arith, subst, sym, w32, ◌∙◌}
 use Rattle.std.specs.Option.{is_some}
 use Rattle.std.specs.Prelude.{Bool, Err, List, Ok, Option, Result, Some, [], drop, false, is_none, not, option_map, refl, slice_get, true, ℕ, ◌*◌, ◌+◌, ◌<◌, ◌∷◌, ◌≡◌, ◌≤◌}
-use Rattle.mc_boot.proofs.Courses.{drop_at_place, get_dropped}
-use Rattle.mc_boot.proofs.Images.{valid_held}
-use Rattle.mc_boot.specs.Boot.{Progress, Steps, StepsAlong, Turns, begun, progress, to_come, whole_list}
-use Rattle.mc_boot.specs.Outcome.{report, result_of, shown}
+use Rattle.mc_boot.proofs.{Courses.{drop_at_place, get_dropped}, Images.{valid_held}}
+use Rattle.mc_boot.specs.{Boot.{Progress, Steps, StepsAlong, Turns, begun, progress, to_come, whole_list}, Outcome.{report, result_of, shown}}
 use Rattle.mc_boot.specs.Plan.{PowerOn, confirms, first_left, identity_of, images_of, new_plan, plan, plan_with, resumed_list, resumed_plan, resumed_swap}
-use Rattle.mc_boot.specs.declared.boot.Boot.{Boot}
-use Rattle.mc_boot.specs.declared.course.Course.{Course}
-use Rattle.mc_boot.specs.declared.image.ImageId.{ImageId}
+use Rattle.mc_boot.specs.{declared.boot.Boot.{Boot}, declared.course.Course.{Course}, declared.image.ImageId.{ImageId}}
 use Rattle.mc_boot.specs.declared.outcome.BootResult.{BootResult}
-use Rattle.mc_flash.specs.Geometry.{Geometry, IsLayout, greatest_sectors, in_pieces, trailer_sectors}
-use Rattle.mc_flash.specs.Usage.{Does, Seen}
-use Rattle.mc_flash.specs.declared.flash.FlashError.{FlashError}
-use Rattle.mc_flash.specs.declared.op.Op.{Op}
-use Rattle.mc_flash.specs.declared.op.Slot.TheVariants.{Primary, Secondary}
+use Rattle.mc_flash.specs.{Geometry.{Geometry, IsLayout, greatest_sectors, in_pieces, trailer_sectors}, Usage.{Does, Seen}}
+use Rattle.mc_flash.specs.{declared.flash.FlashError.{FlashError}, declared.op.Op.{Op}, declared.op.Slot.TheVariants.{Primary, Secondary}}
 use Rattle.mc_flash.specs.facts.Usage.{few_trailer_sectors}
 use Rattle.mc_image.specs.Valid.{id_of}
-use Rattle.mc_trailer.specs.Tables.{is_resumed, resumes, swap_type, table_of}
-use Rattle.mc_trailer.specs.Trailer.{highest_entry, trailer_of}
-use Rattle.mc_trailer.specs.declared.tables.Rules.{Rules}
-use Rattle.mc_trailer.specs.declared.tables.SwapType.{SwapType}
-use Rattle.mc_trailer.specs.declared.trailer.Flag.{Flag}
-use Rattle.mc_trailer.specs.declared.trailer.Trailer.{Trailer}
+use Rattle.mc_trailer.specs.{Tables.{is_resumed, resumes, swap_type, table_of}, Trailer.{highest_entry, trailer_of}, declared.tables.Rules.{Rules}}
+use Rattle.mc_trailer.specs.{declared.tables.SwapType.{SwapType}, declared.trailer.Flag.{Flag}, declared.trailer.Trailer.{Trailer}}
 use Rattle.mc_flash.specs.declared.flash.FlashError.TheVariants as errors
 
 -- A boot at power-on, as its plan says.

@@ -1,45 +1,23 @@
 -- The restart theorem, its second round, and the plan of a test all of whose operations happen.
-use Rattle.std.proofs.Common.{ap, arith, inl, inr, subst, sym, ◌∙◌}
-use Rattle.std.proofs.Math.Nat.{mul-le-mul_right}
-use Rattle.std.proofs.lemmas.Bool.Decides.{nat_tests}
+use Rattle.std.proofs.{Common.{ap, arith, inl, inr, subst, sym, ◌∙◌}, Math.Nat.{mul-le-mul_right}, lemmas.Bool.Decides.{nat_tests}}
 use Rattle.std.proofs.lemmas.Grind.{div_ceil_times}
-use Rattle.std.specs.Int.{div_ceil}
-use Rattle.std.specs.Prelude.{Bool, List, Some, [], false, if◌then◌else◌, length, max, refl, take, true, ℕ, ◌&&◌, ◌*◌, ◌≡◌, ◌≢◌, ◌≤◌, ◌⊎◌}
-use Rattle.mc_boot.proofs.AtRest.{AtRest, both_true, next_is, none_idle, swap_sectors}
-use Rattle.mc_boot.proofs.DeliveredStarts.{starts_law, test_delivered}
+use Rattle.std.specs.{Int.{div_ceil}, Prelude.{Bool, List, Some, [], false, if◌then◌else◌, length, max, refl, take, true, ℕ, ◌&&◌, ◌*◌, ◌≡◌, ◌≢◌, ◌≤◌, ◌⊎◌}}
+use Rattle.mc_boot.proofs.{AtRest.{AtRest, both_true, next_is, none_idle, swap_sectors}, DeliveredStarts.{starts_law, test_delivered}}
 use Rattle.mc_boot.proofs.FromRest.{rest_law, settled_stays, unconfirmed, unmarked_stays}
-use Rattle.mc_boot.proofs.Images.{ImageLaws, SameImage, image_prefix, same_prefixes, same_then}
-use Rattle.mc_boot.proofs.InPieces.{asked_pieces}
-use Rattle.mc_boot.proofs.Joins.{happens_few}
-use Rattle.mc_boot.proofs.Keeps.{Keeps, boots_so, ends, place_beyond_data, restart}
-use Rattle.mc_boot.proofs.LifeProof.{Written, confirmed_written, predicts, rests_delivered}
+use Rattle.mc_boot.proofs.{Images.{ImageLaws, SameImage, image_prefix, same_prefixes, same_then}, InPieces.{asked_pieces}, Joins.{happens_few}}
+use Rattle.mc_boot.proofs.{Keeps.{Keeps, boots_so, ends, place_beyond_data, restart}, LifeProof.{Written, confirmed_written, predicts, rests_delivered}}
 use Rattle.mc_boot.proofs.Phases.{asked, larger_size, plan_asked, plan_none, sees_images, starting}
 use Rattle.mc_boot.proofs.Starts.{Holding, count_of, perm_asked, perm_holds, placed_holds, placed_unasked, primary_image, secondary_image, swap_held, test_asked, test_holds}
 use Rattle.mc_boot.specs.Life.{DeviceState, EndsWell, Forgets, IsDelivered, Leaves, LeavesBytes, asked_of, can_swap, done_or_fails, is_on_trial}
-use Rattle.mc_boot.specs.Outcome.{after, is_faulted, left_by, ops_of}
-use Rattle.mc_boot.specs.Plan.{Plan, PowerOn, again, image_size, new_list, nothing, plain, plan, power_on}
+use Rattle.mc_boot.specs.{Outcome.{after, is_faulted, left_by, ops_of}, Plan.{Plan, PowerOn, again, image_size, new_list, nothing, plain, plan, power_on}}
 use Rattle.mc_boot.specs.Restart.{AreBack, AreExchanged, BeginsImage, EndsAgain, EndsIn, Holds, IsIdle, IsSettled, IsSwapped, IsTested, RestartLaw, RoundsLaw, StartsExist, confirmed, confirmed_if, forgets_reverts, image_bytes, may_confirm, named, other, perm_flash, placed, start_flash, test_flash}
-use Rattle.mc_boot.specs.WholeSwap.{MakesSwap}
-use Rattle.mc_boot.specs.declared.kind.Kind.{Kind}
-use Rattle.mc_boot.specs.facts.Run.{left_defined}
-use Rattle.mc_flash.specs.Flash.{Content}
-use Rattle.mc_flash.specs.Geometry.{Geometry, IsLayout, fits, greatest_sectors, in_pieces}
-use Rattle.mc_flash.specs.declared.flash.Grain.{Grain}
-use Rattle.mc_flash.specs.declared.op.Op.{Op}
-use Rattle.mc_flash.specs.declared.op.Slot.TheVariants.{Primary, Secondary}
-use Rattle.mc_flash.specs.facts.Changes.{same_content, sized_is}
-use Rattle.mc_flash.specs.facts.Layouts.{data_end, image_is_data}
+use Rattle.mc_boot.specs.{WholeSwap.{MakesSwap}, declared.kind.Kind.{Kind}, facts.Run.{left_defined}}
+use Rattle.mc_flash.specs.{Flash.{Content}, Geometry.{Geometry, IsLayout, fits, greatest_sectors, in_pieces}, declared.flash.Grain.{Grain}, declared.op.Op.{Op}}
+use Rattle.mc_flash.specs.{declared.op.Slot.TheVariants.{Primary, Secondary}, facts.Changes.{same_content, sized_is}, facts.Layouts.{data_end, image_is_data}}
 use Rattle.mc_image.specs.Valid.{is_valid}
-use Rattle.mc_trailer.specs.Tables.{is_good, is_set, is_unset, reverts_at}
-use Rattle.mc_trailer.specs.Trailer.{place, trailer_of}
-use Rattle.mc_trailer.specs.declared.tables.Profile.{Profile}
-use Rattle.mc_trailer.specs.declared.tables.Rules.{Rules}
-use Rattle.mc_trailer.specs.declared.tables.SwapType.{SwapType}
-use Rattle.mc_trailer.specs.declared.trailer.Flag.{Flag}
-use Rattle.mc_trailer.specs.declared.trailer.Magic.{Magic}
-use Rattle.mc_trailer.specs.declared.trailer.Trailer.{Trailer}
-use Rattle.mc_trailer.specs.facts.Fields.{FieldsAre, reads_absent, reads_good, reads_image_ok}
-use Rattle.mc_trailer.specs.facts.Places.{field_ends}
+use Rattle.mc_trailer.specs.{Tables.{is_good, is_set, is_unset, reverts_at}, Trailer.{place, trailer_of}, declared.tables.Profile.{Profile}}
+use Rattle.mc_trailer.specs.{declared.tables.Rules.{Rules}, declared.tables.SwapType.{SwapType}, declared.trailer.Flag.{Flag}, declared.trailer.Magic.{Magic}}
+use Rattle.mc_trailer.specs.{declared.trailer.Trailer.{Trailer}, facts.Fields.{FieldsAre, reads_absent, reads_good, reads_image_ok}, facts.Places.{field_ends}}
 use lib.Seq.{take-take}
 use Rattle.mc_trailer.specs.declared.places.Field.TheVariants as field
 use Rattle.mc_trailer.specs.declared.trailer.Flag.TheVariants as flags

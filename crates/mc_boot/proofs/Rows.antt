@@ -1,23 +1,15 @@
 -- The definitions computed on a small layout: sectors of 256 bytes, units of 8, at most 4 sectors of an image, chunks of
 -- 128, four and three sectors. The images are of 80 bytes, and valid.
-use Rattle.std.specs.Prelude.{◌≡◌, ℕ, true, List, [], ◌∷◌, ◌++◌, map, replicate, take, length, sum, unwrap_or, refl}
-use Rattle.std.specs.List.{range_with_len}
+use Rattle.std.specs.{Prelude.{◌≡◌, ℕ, true, List, [], ◌∷◌, ◌++◌, map, replicate, take, length, sum, unwrap_or, refl}, List.{range_with_len}}
 use Rattle.std.proofs.Common.{ap}
-use Rattle.mc_flash.specs.Geometry.{Geometry, trailer_sectors, greatest_sectors}
-use Rattle.mc_flash.specs.Flash.{Content, put, apply}
-use Rattle.mc_flash.specs.declared.op.Slot.TheVariants.{Primary, Secondary}
-use Rattle.mc_flash.specs.declared.op.Op.{Op}
-use Rattle.mc_flash.specs.declared.op.Op.TheVariants.{Erase, Program, Copy}
+use Rattle.mc_flash.specs.{Geometry.{Geometry, trailer_sectors, greatest_sectors}, Flash.{Content, put, apply}}
+use Rattle.mc_flash.specs.{declared.op.Slot.TheVariants.{Primary, Secondary}, declared.op.Op.{Op}, declared.op.Op.TheVariants.{Erase, Program, Copy}}
 use Rattle.mc_flash.specs.declared.flash.Grain.TheVariants as grains
-use Rattle.mc_trailer.specs.Trailer.{magic_bytes, trailer_of}
-use Rattle.mc_trailer.specs.declared.tables.Rules.{Rules}
+use Rattle.mc_trailer.specs.{Trailer.{magic_bytes, trailer_of}, declared.tables.Rules.{Rules}}
 use Rattle.mc_trailer.specs.declared.tables.Profile.TheVariants as profiles
 use Rattle.mc_trailer.specs.declared.tables.SwapType.{SwapType}
 use Rattle.mc_trailer.specs.declared.tables.SwapType.TheVariants as kinds
-use Rattle.mc_boot.specs.declared.image.Images.{Images}
-use Rattle.mc_boot.specs.Plan.{Plan, plan_with, plain}
-use Rattle.mc_boot.specs.Outcome.{applied, happening}
-use Rattle.mc_boot.specs.Restart.{test_flash, perm_flash}
+use Rattle.mc_boot.specs.{declared.image.Images.{Images}, Plan.{Plan, plan_with, plain}, Outcome.{applied, happening}, Restart.{test_flash, perm_flash}}
 
 abbrev q : Geometry
 q = record { sector = 256; unit = 8; max_sectors = 4; chunk = 128; primary = 4; secondary = 3 }

@@ -1,30 +1,18 @@
 -- A course is its sections, one after the other: how many operations each has, and which is which.
-use Rattle.std.proofs.Common.{add-one, ap, append-nil, append_assoc, arith, length-append, sym, zero-add, ◌∙◌}
-use Rattle.std.proofs.Math.Nat.{mod-add-div', mul-le-mul_right}
-use Rattle.std.proofs.lemmas.List.{length-drop}
-use Rattle.std.proofs.lemmas.List.FromFn.{length-map-range_with_len}
-use Rattle.std.proofs.lemmas.Nat.{mod_below}
-use Rattle.std.proofs.lemmas.Option.{slice_get_within}
+use Rattle.std.proofs.{Common.{add-one, ap, append-nil, append_assoc, arith, length-append, sym, zero-add, ◌∙◌}, Math.Nat.{mod-add-div', mul-le-mul_right}}
+use Rattle.std.proofs.{lemmas.List.{length-drop}, lemmas.List.FromFn.{length-map-range_with_len}, lemmas.Nat.{mod_below}, lemmas.Option.{slice_get_within}}
 use Rattle.std.specs.Prelude.{Bool, IfSome, List, Option, Some, [], drop, get_or, length, map, max, refl, slice_get, suc, take, false, true, zero, ℕ, ◌∷◌, ◌%◌, ◌*◌, ◌++◌, ◌+◌, ◌-◌, ◌/◌, ◌<◌, ◌≡◌, ◌≤◌}
 use Rattle.mc_boot.specs.Boot.{list_from}
 use Rattle.mc_boot.specs.Plan.{is_revert, new_list, opening_writes, preparation_writes, resumed_list, steps, swap_list, trailer_erase, trailer_erases, transfers, write_count}
-use Rattle.mc_boot.specs.declared.course.Opening.{Opening}
-use Rattle.mc_boot.specs.declared.section.Counted.{Counted}
-use Rattle.mc_boot.specs.declared.section.Section.{Section}
-use Rattle.mc_boot.specs.declared.section.Section.TheVariants.{Nothing, Erases, Flag, Size, Magic, Transfers}
-use Rattle.mc_boot.specs.declared.transfer.Transfer.{Transfer}
+use Rattle.mc_boot.specs.{declared.course.Opening.{Opening}, declared.section.Counted.{Counted}, declared.section.Section.{Section}}
+use Rattle.mc_boot.specs.{declared.section.Section.TheVariants.{Nothing, Erases, Flag, Size, Magic, Transfers}, declared.transfer.Transfer.{Transfer}}
 use Rattle.mc_boot.specs.inner.Section.{AreCounted, count_in, counted, ops_in, ops_of_all, preparation_sections, resumed_sections, swap_sections}
-use Rattle.mc_flash.specs.Geometry.{Geometry, IsLayout, greatest_sectors, trailer_sectors}
-use Rattle.mc_flash.specs.declared.flash.Grain.{Grain}
-use Rattle.mc_flash.specs.declared.op.Op.{Op}
-use Rattle.mc_flash.specs.declared.op.Slot.{Slot}
-use Rattle.mc_flash.specs.declared.op.Slot.TheVariants.{Primary, Secondary}
-use Rattle.mc_flash.specs.facts.Layouts.{small_unit}
+use Rattle.mc_boot.specs.{facts.Bounds.{course_count}, facts.Lengths.{length-magic, length-size, length-steps, length-transfers, length_pieces}}
+use Rattle.mc_flash.specs.{Geometry.{Geometry, IsLayout, greatest_sectors, trailer_sectors}, declared.flash.Grain.{Grain}, declared.op.Op.{Op}}
+use Rattle.mc_flash.specs.{declared.op.Slot.{Slot}, declared.op.Slot.TheVariants.{Primary, Secondary}, facts.Layouts.{small_unit}}
 use Rattle.mc_flash.specs.facts.Usage.{few_trailer_sectors}
 use Rattle.mc_trailer.specs.declared.tables.SwapType.{SwapType}
 use Rattle.mc_boot.proofs.Courses.{few_transfers, get_beyond, get_dropped, get_mapped, get_piece, get_within}
-use Rattle.mc_boot.specs.facts.Bounds.{course_count}
-use Rattle.mc_boot.specs.facts.Lengths.{length-magic, length-size, length-steps, length-transfers, length_pieces}
 use lib.Seq.{drop-cons}
 use Rattle.mc_trailer.specs.declared.tables.SwapType.TheVariants as kinds
 

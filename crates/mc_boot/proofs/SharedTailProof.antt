@@ -1,30 +1,13 @@
 -- What the test of two courses, and of the sectors that are erased, says of the flashes after a cut.
 use Rattle.std.specs.Prelude.{◌≡◌, ℕ, zero, suc, ◌+◌, ◌*◌, ◌<◌, ◌≤◌, max, true, List, [], ◌∷◌, length, map, take, drop, slice_get, Some, IfSome}
-use Rattle.std.proofs.Common.{arith, sym, ap, subst, ◌∙◌, inl, inr}
-use Rattle.std.proofs.lemmas.Bool.{cases_lt}
-use Rattle.std.proofs.lemmas.Bool.Decides.{nat_tests}
-use Rattle.mc_flash.specs.Flash.{CanTry, Content, size_of}
-use Rattle.mc_flash.specs.facts.Layouts.{sector_inside}
-use Rattle.mc_flash.specs.Geometry.{Geometry, IsLayout, in_pieces}
-use Rattle.mc_flash.specs.declared.flash.Grain.{Grain}
-use Rattle.mc_flash.specs.declared.op.Op.{Op}
-use Rattle.mc_flash.specs.declared.op.Op.TheVariants.{Erase}
-use Rattle.mc_flash.specs.declared.op.Slot.{Slot}
-use Rattle.mc_boot.specs.Joins.{IsCut, erases_of, kept_of}
-use Rattle.mc_boot.specs.Boot.{IsBootOf, begun, progress, course_list, whole_list}
-use Rattle.mc_boot.specs.Outcome.{Report, at, ops_of}
-use Rattle.mc_boot.specs.Plan.{plan, PowerOn, again}
-use Rattle.mc_boot.specs.inner.Idle.{AllIdleBut, changes_nothing}
-use Rattle.mc_boot.specs.SharedTail.{IsSharedTail, index_in_parent}
-use Rattle.mc_boot.specs.facts.Run.{come_at}
-use Rattle.mc_boot.specs.declared.boot.Boot.{Boot}
-use Rattle.mc_boot.specs.declared.course.Course.{Course}
-use Rattle.mc_boot.specs.declared.shared_tail.SharedTail.{SharedTail}
-use Rattle.mc_boot.proofs.CourseJoins.{begun_list, layout_is, met_joins, sectors_pieces, joins_meet}
-use Rattle.mc_boot.proofs.Meets.{Fit, Meets, Sector, erase_of}
-use Rattle.mc_boot.proofs.Erased.{AreErased, erased_here}
-use Rattle.mc_boot.proofs.Joins.{Joins, joined}
-use Rattle.mc_boot.proofs.SharedTails.{among, beyond_erased, fits, late, next_erases, stays}
+use Rattle.std.proofs.{Common.{arith, sym, ap, subst, ◌∙◌, inl, inr}, lemmas.Bool.{cases_lt}, lemmas.Bool.Decides.{nat_tests}}
+use Rattle.mc_flash.specs.{Flash.{CanTry, Content, size_of}, facts.Layouts.{sector_inside}, Geometry.{Geometry, IsLayout, in_pieces}}
+use Rattle.mc_flash.specs.{declared.flash.Grain.{Grain}, declared.op.Op.{Op}, declared.op.Op.TheVariants.{Erase}, declared.op.Slot.{Slot}}
+use Rattle.mc_boot.specs.{Joins.{IsCut, erases_of, kept_of}, Boot.{IsBootOf, begun, progress, course_list, whole_list}, Outcome.{Report, at, ops_of}}
+use Rattle.mc_boot.specs.{Plan.{plan, PowerOn, again}, inner.Idle.{AllIdleBut, changes_nothing}, SharedTail.{IsSharedTail, index_in_parent}}
+use Rattle.mc_boot.specs.{facts.Run.{come_at}, declared.boot.Boot.{Boot}, declared.course.Course.{Course}, declared.shared_tail.SharedTail.{SharedTail}}
+use Rattle.mc_boot.proofs.{CourseJoins.{begun_list, layout_is, met_joins, sectors_pieces, joins_meet}, Meets.{Fit, Meets, Sector, erase_of}}
+use Rattle.mc_boot.proofs.{Erased.{AreErased, erased_here}, Joins.{Joins, joined}, SharedTails.{among, beyond_erased, fits, late, next_erases, stays}}
 
 -- A sector that is erased lies in its slot, whatever the pieces in which sectors are copied.
 pub sector_there : (c : Grain) (g : Geometry) (slot : Slot) (sector : ℕ) → CanTry (in_pieces c g) (Erase slot sector)

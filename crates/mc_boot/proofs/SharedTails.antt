@@ -1,19 +1,12 @@
 -- Where the flashes after a cut lie among those of the boot that was cut.
 use Rattle.std.specs.Prelude.{◌≡◌, ℕ, ◌+◌, ◌-◌, ◌<◌, ◌≤◌, max, List, [], ◌∷◌, ◌++◌, length, map, take, drop, Some, refl}
-use Rattle.std.proofs.Common.{arith, sym, ap, subst, ◌∙◌, inl, inr, length-append}
-use Rattle.std.proofs.Math.Seq.{take-add, take-length, take-append-add}
-use Rattle.std.proofs.lemmas.Bool.{cases_lt}
+use Rattle.std.proofs.{Common.{arith, sym, ap, subst, ◌∙◌, inl, inr, length-append}, Math.Seq.{take-add, take-length, take-append-add}, lemmas.Bool.{cases_lt}}
 use Rattle.std.proofs.lemmas.List.{length-take-le, length-map, take-append-drop, take-append-le, take-map}
-use Rattle.mc_flash.specs.Geometry.{Geometry}
-use Rattle.mc_flash.specs.Flash.{Content}
-use Rattle.mc_flash.specs.declared.op.Op.{Op}
-use Rattle.mc_boot.specs.Plan.{plan, PowerOn, again}
-use Rattle.mc_boot.specs.facts.Run.{happening_prefix}
-use Rattle.mc_boot.specs.Outcome.{applied, at, happening, ops_of}
+use Rattle.mc_flash.specs.{Geometry.{Geometry}, Flash.{Content}, declared.op.Op.{Op}, facts.Changes.{same_content}}
+use Rattle.mc_boot.specs.{Plan.{plan, PowerOn, again}, facts.Run.{happening_prefix}, Outcome.{applied, at, happening, ops_of}}
 use Rattle.mc_boot.proofs.Meets.{Fit, blank, fit_longer, fit_there, Sector, erase_of}
 use Rattle.mc_boot.proofs.Erased.{AreErased, blank_erased, blank_noop, blank_stays, erased_prefix, fit_beyond, fit_blanked, fit_prefix}
 use Rattle.mc_boot.proofs.Joins.{Joins, Met, applied_beyond, applied_longer, erases_applied, happens_all, happens_few_of, meets}
-use Rattle.mc_flash.specs.facts.Changes.{same_content}
 use lib.Seq.{take-take}
 
 blank_append : (g : Geometry) (xs ys : List Sector) (s : Content) → blank g (xs ++ ys) s ≡ blank g ys (blank g xs s)

@@ -1,28 +1,16 @@
 -- Start flashes: their bytes and their fields.
-use Rattle.std.proofs.Common.{ap, arith, inl, inr, length-append, subst, sym, ◌∙◌}
-use Rattle.std.proofs.Math.Nat.{mul-le-mul_right, zero-mul}
-use Rattle.std.proofs.lemmas.Bool.{cases_lt}
+use Rattle.std.proofs.{Common.{ap, arith, inl, inr, length-append, subst, sym, ◌∙◌}, Math.Nat.{mul-le-mul_right, zero-mul}, lemmas.Bool.{cases_lt}}
 use Rattle.std.proofs.lemmas.Grind.{div_ceil_times}
 use Rattle.std.proofs.lemmas.List.{get_or-append_right, get_or-replicate, get_or-take, get_or_append_left, length-replicate, length-take-le}
 use Rattle.std.specs.Int.{div_ceil}
 use Rattle.std.specs.Prelude.{List, [], false, length, max, refl, replicate, slice_index, suc, true, zero, ℕ, ◌*◌, ◌+◌, ◌-◌, ◌<◌, ◌∷◌, ◌≡◌, ◌≤◌, ◌⊎◌}
-use Rattle.mc_boot.proofs.Courses.{slot_small}
-use Rattle.mc_boot.proofs.Images.{ImageLaws, SameImage, image_prefix, inside_size, same_prefixes, some_size, HasImage}
-use Rattle.mc_boot.proofs.Keeps.{place_beyond_data}
-use Rattle.mc_boot.proofs.Phases.{Swap, asked, larger_size, unasked}
-use Rattle.mc_boot.proofs.SwapEnds.{prefix_inside}
-use Rattle.mc_boot.proofs.SwapsKeep.{unasked_from}
-use Rattle.mc_boot.specs.Plan.{image_size}
-use Rattle.mc_boot.specs.Restart.{BeginsImage, filled, image_bytes, perm_flash, placed, test_flash}
-use Rattle.mc_flash.specs.Flash.{Content, IsSized, put, size_of}
-use Rattle.mc_flash.specs.Geometry.{Geometry, IsLayout, greatest_sectors}
-use Rattle.mc_flash.specs.declared.op.Slot.{Slot}
-use Rattle.mc_flash.specs.declared.op.Slot.TheVariants.{Primary, Secondary}
-use Rattle.mc_flash.specs.facts.Changes.{length-put, put_before, put_beyond, put_inside}
+use Rattle.mc_boot.proofs.{Courses.{slot_small}, Images.{ImageLaws, SameImage, image_prefix, inside_size, same_prefixes, some_size, HasImage}}
+use Rattle.mc_boot.proofs.{Keeps.{place_beyond_data}, Phases.{Swap, asked, larger_size, unasked}, SwapEnds.{prefix_inside}, SwapsKeep.{unasked_from}}
+use Rattle.mc_boot.specs.{Plan.{image_size}, Restart.{BeginsImage, filled, image_bytes, perm_flash, placed, test_flash}}
+use Rattle.mc_flash.specs.{Flash.{Content, IsSized, put, size_of}, Geometry.{Geometry, IsLayout, greatest_sectors}, declared.op.Slot.{Slot}}
+use Rattle.mc_flash.specs.{declared.op.Slot.TheVariants.{Primary, Secondary}, facts.Changes.{length-put, put_before, put_beyond, put_inside}}
 use Rattle.mc_flash.specs.facts.Layouts.{data_before_trailer, data_end, fits_few, image_is_data}
-use Rattle.mc_trailer.specs.Trailer.{magic_bytes, place}
-use Rattle.mc_trailer.specs.facts.Fields.{FieldsAre}
-use Rattle.mc_trailer.specs.facts.Places.{place_inside}
+use Rattle.mc_trailer.specs.{Trailer.{magic_bytes, place}, facts.Fields.{FieldsAre}, facts.Places.{place_inside}}
 use Rattle.mc_trailer.specs.declared.places.Field.TheVariants as field
 
 -- The start flashes, byte by byte.

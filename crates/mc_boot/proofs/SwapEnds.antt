@@ -1,32 +1,19 @@
 -- What stands at the start of the slots on the way of a swap, what a boot keeps, and how a swap ends.
-use Rattle.std.proofs.Common.{ap, arith, inl, inr, subst, sym, ◌∙◌}
-use Rattle.std.proofs.Math.Nat.{mod-add-div', mul-le-mul_right}
-use Rattle.std.proofs.lemmas.Bool.{cases_lt}
-use Rattle.std.proofs.lemmas.Grind.{div_ceil_times}
-use Rattle.std.proofs.lemmas.Nat.{mod_below}
+use Rattle.std.proofs.{Common.{ap, arith, inl, inr, subst, sym, ◌∙◌}, Math.Nat.{mod-add-div', mul-le-mul_right}, lemmas.Bool.{cases_lt}}
+use Rattle.std.proofs.{lemmas.Grind.{div_ceil_times}, lemmas.Nat.{mod_below}}
 use Rattle.std.specs.Prelude.{Bool, List, [], false, if◌then◌else◌, max, refl, replicate, suc, take, true, zero, ℕ, ◌%◌, ◌*◌, ◌++◌, ◌+◌, ◌-◌, ◌/◌, ◌<◌, ◌==◌, ◌≡◌, ◌≤◌}
-use Rattle.mc_boot.proofs.Courses.{get_moved}
-use Rattle.mc_boot.proofs.Images.{HasImage, SameImage, same_prefixes, same_image}
-use Rattle.mc_boot.proofs.InPieces.{pieces_again, plan_in_pieces, swap_pieces, trailer_pieces}
-use Rattle.mc_boot.proofs.Keeps.{Keeps}
-use Rattle.mc_boot.proofs.Moving.{Data, IsNoTarget, byte_held}
+use Rattle.mc_boot.proofs.{Courses.{get_moved}, Images.{HasImage, SameImage, same_prefixes, same_image}}
+use Rattle.mc_boot.proofs.{InPieces.{pieces_again, plan_in_pieces, swap_pieces, trailer_pieces}, Keeps.{Keeps}, Moving.{Data, IsNoTarget, byte_held}}
 use Rattle.mc_boot.proofs.Phases.{Asked, Ended, IsSwapOf, Phase, SeesImages, Swap, Under, absent_reverts, closed, image_ok_is, kind_asked, larger_size, plan_asked, plan_settled, plan_tested, plan_under, running, sees_images, starting, swap_of, tested}
 use Rattle.mc_boot.proofs.SwapsKeep.{rest_keeps, swap_keeps, clearing_keeps}
 use Rattle.mc_boot.proofs.Transfers.{Held, at_start, exchanged, held_after_all, held_at, held_begin, held_end, other_number, place_below, same_transfer}
-use Rattle.mc_boot.specs.Plan.{Plan, PowerOn, again, image_size, moved_up, new_list, plan, power_on, transfers}
-use Rattle.mc_boot.specs.Restart.{AreExchanged, IsSettled, IsTested}
+use Rattle.mc_boot.specs.{Plan.{Plan, PowerOn, again, image_size, moved_up, new_list, plan, power_on, transfers}, Restart.{AreExchanged, IsSettled, IsTested}}
 use Rattle.mc_boot.specs.declared.transfer.Transfer.{Transfer}
-use Rattle.mc_flash.specs.Flash.{Content, IsSized, byte, bytes_of, size_of}
-use Rattle.mc_flash.specs.Geometry.{Geometry, IsLayout, greatest_sectors, in_pieces}
-use Rattle.mc_flash.specs.declared.flash.Grain.{Grain}
-use Rattle.mc_flash.specs.declared.op.Slot.{Slot}
-use Rattle.mc_flash.specs.declared.op.Slot.TheVariants.{Primary, Secondary}
-use Rattle.mc_flash.specs.facts.Changes.{sized_is}
+use Rattle.mc_flash.specs.{Flash.{Content, IsSized, byte, bytes_of, size_of}, Geometry.{Geometry, IsLayout, greatest_sectors, in_pieces}}
+use Rattle.mc_flash.specs.{declared.flash.Grain.{Grain}, declared.op.Slot.{Slot}, declared.op.Slot.TheVariants.{Primary, Secondary}, facts.Changes.{sized_is}}
 use Rattle.mc_flash.specs.facts.Layouts.{data_before_trailer, data_sectors, image_is_data}
 use Rattle.mc_image.specs.Valid.{is_valid}
-use Rattle.mc_trailer.specs.Trailer.{one_unit, room, trailer_of}
-use Rattle.mc_trailer.specs.declared.places.Field.{Field}
-use Rattle.mc_trailer.specs.declared.tables.Rules.{Rules}
+use Rattle.mc_trailer.specs.{Trailer.{one_unit, room, trailer_of}, declared.places.Field.{Field}, declared.tables.Rules.{Rules}}
 use Rattle.mc_trailer.specs.declared.tables.SwapType.{SwapType}
 use Rattle.mc_trailer.specs.facts.Fields.{FieldsAre, blank_fields, fields_prefix, reads_absent, reads_copy_done, reads_good}
 use Rattle.mc_trailer.specs.declared.places.Field.TheVariants as field

@@ -1,24 +1,18 @@
 -- The phases of a swap are kept by its transfers, by the whole of it, and by the preparation of a revert.
-use Rattle.std.proofs.Common.{ap, arith, inl, inr, subst, sym, ◌∙◌}
-use Rattle.std.proofs.lemmas.List.{get_or-replicate, length-replicate, length-take-le, drop_all}
+use Rattle.std.proofs.{Common.{ap, arith, inl, inr, subst, sym, ◌∙◌}, lemmas.List.{get_or-replicate, length-replicate, length-take-le, drop_all}}
 use Rattle.std.specs.Prelude.{Bool, List, Some, [], drop, false, flat_map, if◌then◌else◌, length, refl, replicate, slice_get, suc, take, true, zero, ℕ, ◌%◌, ◌*◌, ◌++◌, ◌+◌, ◌-◌, ◌/◌, ◌<◌, ◌∷◌, ◌≡◌, ◌≢◌, ◌≤◌, ◌⊎◌}
 use Rattle.mc_boot.proofs.Courses.{drop_at_place, some_trailer}
-use Rattle.mc_boot.specs.facts.Lengths.{length-transfers}
 use Rattle.mc_boot.proofs.Keeps.{Erased, Keeps, Part, erase_beyond_data, erased_here, erased_still, erases_keep, field_write_keeps, keeps_append, keeps_then, place_beyond_data}
 use Rattle.mc_boot.proofs.Moving.{Copied, Data, IsOutside, Transferred, data_half, data_same, data_step, kept_below, transfer_keeps}
 use Rattle.mc_boot.proofs.Phases.{Asked, Ended, IsSwapOf, Phase, MagicUnset, Swap, Under, Waiting, asked, asks, closed, opened, runs, tested, unasked, waits}
 use Rattle.mc_boot.proofs.Transfers.{Entries, Fits, entries_kept, entries_none, entry_number, entry_step, fits_at, number_below, number_up, place_below, there_is}
+use Rattle.mc_boot.specs.facts.Lengths.{length-transfers}
 use Rattle.mc_boot.specs.Plan.{closing, from_transfer, image_ok_write, info_write, is_test, marking, new_list, number_of, opening_writes, preparation_writes, resumed_list, steps, swap_list, trailer_erases, transfers, write}
 use Rattle.mc_boot.specs.declared.transfer.Transfer.{Transfer}
-use Rattle.mc_flash.specs.Flash.{Content, IsSized, byte, sectors_of, size_of}
-use Rattle.mc_flash.specs.Geometry.{Geometry, IsLayout, greatest_sectors, trailer_bytes, trailer_sectors}
-use Rattle.mc_flash.specs.declared.flash.Grain.{Grain}
-use Rattle.mc_flash.specs.declared.op.Slot.{Slot}
-use Rattle.mc_flash.specs.declared.op.Slot.TheVariants.{Primary, Secondary}
-use Rattle.mc_flash.specs.facts.Changes.{Changed, changed_sized}
-use Rattle.mc_flash.specs.facts.Layouts.{data_before_trailer, data_end, small_unit, trailer_leaves_one}
-use Rattle.mc_trailer.specs.Trailer.{entry_place, magic_bytes, one_unit, place, room, size_bytes}
-use Rattle.mc_trailer.specs.declared.places.Field.{Field}
+use Rattle.mc_flash.specs.{Flash.{Content, IsSized, byte, sectors_of, size_of}, Geometry.{Geometry, IsLayout, greatest_sectors, trailer_bytes, trailer_sectors}}
+use Rattle.mc_flash.specs.{declared.flash.Grain.{Grain}, declared.op.Slot.{Slot}, declared.op.Slot.TheVariants.{Primary, Secondary}}
+use Rattle.mc_flash.specs.{facts.Changes.{Changed, changed_sized}, facts.Layouts.{data_before_trailer, data_end, small_unit, trailer_leaves_one}}
+use Rattle.mc_trailer.specs.{Trailer.{entry_place, magic_bytes, one_unit, place, room, size_bytes}, declared.places.Field.{Field}}
 use Rattle.mc_trailer.specs.declared.tables.SwapType.{SwapType}
 use Rattle.mc_trailer.specs.facts.Fields.{FieldIs, FieldsAre, blank_byte, blank_field, blank_fields, field_as, field_kept_beside, field_write, fields_as, fields_prefix, fields_same, same_field_is, set_field, write_field}
 use Rattle.mc_trailer.specs.facts.Places.{entry_ends, entry_inside, field_ends, magic_range, most_before_end, one_unit_fits, one_unit_len, one_unit_whole, place_inside, size_bytes_fit, size_bytes_whole}

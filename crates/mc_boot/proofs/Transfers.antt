@@ -1,22 +1,13 @@
 -- The transfers of a swap: where each reads and writes, its status entry, and the highest entry that is written.
-use Rattle.std.proofs.Common.{add-zero, ap, arith, eq-eqb, inl, inr, subst, sym, zero-add, ◌∙◌, add-one}
-use Rattle.std.proofs.lemmas.Bool.{cases_eq, cases_lt}
-use Rattle.std.proofs.lemmas.Bool.Decides.{nat_tests}
-use Rattle.std.proofs.lemmas.Iterator.Adapters.{position_from-zero}
-use Rattle.std.proofs.lemmas.Option.{slice_get_within, get_or_from_slice_get}
+use Rattle.std.proofs.{Common.{add-zero, ap, arith, eq-eqb, inl, inr, subst, sym, zero-add, ◌∙◌, add-one}, lemmas.Bool.{cases_eq, cases_lt}}
+use Rattle.std.proofs.{lemmas.Bool.Decides.{nat_tests}, lemmas.Iterator.Adapters.{position_from-zero}, lemmas.Option.{slice_get_within, get_or_from_slice_get}}
 use Rattle.std.specs.List.{position_from, range_with_len}
 use Rattle.std.specs.Prelude.{Bool, List, None, Option, Some, [], false, flat_map, if◌then◌else◌, map, nat_lt, option_map, refl, slice_get, suc, take, true, zero, ℕ, ◌%◌, ◌&&◌, ◌*◌, ◌++◌, ◌+◌, ◌-◌, ◌/◌, ◌<◌, ◌==◌, ◌∷◌, ◌≡◌, ◌≤◌, ◌⊎◌}
 use Rattle.mc_boot.proofs.Courses.{get_brought, get_moved, get_taken}
-use Rattle.mc_boot.specs.facts.Lengths.{length-transfers}
-use Rattle.mc_boot.specs.Boot.{IsInside}
-use Rattle.mc_boot.specs.Plan.{brought_in, first_left, moved_up, taken_out, transfers}
+use Rattle.mc_boot.specs.{facts.Lengths.{length-transfers}, Boot.{IsInside}, Plan.{brought_in, first_left, moved_up, taken_out, transfers}}
 use Rattle.mc_boot.specs.declared.transfer.Transfer.{Transfer}
-use Rattle.mc_flash.specs.Flash.{Content, IsSized, byte, size_of}
-use Rattle.mc_flash.specs.Geometry.{Geometry, IsLayout, greatest_sectors, trailer_bytes}
-use Rattle.mc_flash.specs.declared.op.Slot.{Slot}
-use Rattle.mc_flash.specs.declared.op.Slot.TheVariants.{Primary, Secondary}
-use Rattle.mc_flash.specs.facts.Changes.{Changed}
-use Rattle.mc_flash.specs.facts.Layouts.{data_sectors, small_unit}
+use Rattle.mc_flash.specs.{Flash.{Content, IsSized, byte, size_of}, Geometry.{Geometry, IsLayout, greatest_sectors, trailer_bytes}, declared.op.Slot.{Slot}}
+use Rattle.mc_flash.specs.{declared.op.Slot.TheVariants.{Primary, Secondary}, facts.Changes.{Changed}, facts.Layouts.{data_sectors, small_unit}}
 use Rattle.mc_trailer.specs.Trailer.{entry_place, highest_entry, one_unit}
 use Rattle.mc_trailer.specs.facts.Entries.{blank_entry, entries_same, entry_kept_beside, highest_at, highest_none, written_entry}
 use Rattle.mc_trailer.specs.facts.Places.{entry_ends, entry_inside}

@@ -1,29 +1,18 @@
 -- The application's own work leaves bytes; a list of operations erases a sector at most twice.
-use Rattle.std.proofs.Common.{arith, inl, inr}
-use Rattle.std.proofs.lemmas.Bool.{cases_lt}
-use Rattle.std.proofs.lemmas.Bool.Decides.{nat_tests}
+use Rattle.std.proofs.{Common.{arith, inl, inr}, lemmas.Bool.{cases_lt}, lemmas.Bool.Decides.{nat_tests}}
 use Rattle.std.proofs.lemmas.List.{get_or-replicate, get_or_past, length-replicate}
 use Rattle.std.specs.List.{between, range_with_len}
 use Rattle.std.specs.Prelude.{Bool, List, None, Option, Some, [], drop, false, flat_map, if◌then◌else◌, length, map, nat_lt, refl, replicate, slice_index, suc, take, true, zero, ℕ, ◌*◌, ◌++◌, ◌+◌, ◌-◌, ◌/◌, ◌<◌, ◌==◌, ◌||◌, ◌∷◌, ◌≡◌, ◌≤◌, ◌⊎◌}
-use Rattle.mc_boot.specs.Life.{AreSecondary, WearLaw, WorkLaw, all_erases, erases}
-use Rattle.mc_boot.specs.Outcome.{first_then, happening, ops_of}
+use Rattle.mc_boot.specs.{Life.{AreSecondary, WearLaw, WorkLaw, all_erases, erases}, Outcome.{first_then, happening, ops_of}}
 use Rattle.mc_boot.specs.Plan.{Plan, PowerOn, brought_in, closing, copy_of, from_transfer, is_revert, marking, moved_up, new_list, new_plan, new_swap, nothing, opening_writes, plan, plan_with, preparation_writes, resumed_from, resumed_list, resumed_plan, resumed_swap, steps, swap_list, taken_out, trailer_erases, transfers, write}
-use Rattle.mc_boot.specs.declared.image.Images.{Images}
-use Rattle.mc_boot.specs.declared.transfer.Transfer.{Transfer}
+use Rattle.mc_boot.specs.{declared.image.Images.{Images}, declared.transfer.Transfer.{Transfer}}
 use Rattle.mc_flash.specs.Flash.{Content, IsSized, apply, erased, in_slot, is_blank, put, size_of, with_bytes}
-use Rattle.mc_flash.specs.Geometry.{Geometry, IsLayout, greatest_sectors}
-use Rattle.mc_flash.specs.declared.flash.Grain.{Grain}
-use Rattle.mc_flash.specs.declared.op.Op.{Op}
-use Rattle.mc_flash.specs.declared.op.Op.TheVariants.{Copy, Erase, Program}
-use Rattle.mc_flash.specs.declared.op.Slot.{Slot}
-use Rattle.mc_flash.specs.declared.op.Slot.TheVariants.{Primary, Secondary}
-use Rattle.mc_flash.specs.facts.Changes.{length-put, put_before, put_beyond, put_inside, same_content}
-use Rattle.mc_flash.specs.facts.Layouts.{data_sectors, sector_inside}
+use Rattle.mc_flash.specs.{Geometry.{Geometry, IsLayout, greatest_sectors}, declared.flash.Grain.{Grain}, declared.op.Op.{Op}}
+use Rattle.mc_flash.specs.{declared.op.Op.TheVariants.{Copy, Erase, Program}, declared.op.Slot.{Slot}, declared.op.Slot.TheVariants.{Primary, Secondary}}
+use Rattle.mc_flash.specs.{facts.Changes.{length-put, put_before, put_beyond, put_inside, same_content}, facts.Layouts.{data_sectors, sector_inside}}
 use Rattle.mc_flash.specs.facts.Pieces.{pieces_layout}
 use Rattle.mc_image.specs.Image.{IsBytes}
-use Rattle.mc_trailer.specs.declared.places.Field.{Field}
-use Rattle.mc_trailer.specs.declared.tables.SwapType.{SwapType}
-use Rattle.mc_trailer.specs.declared.trailer.Flag.{Flag}
+use Rattle.mc_trailer.specs.{declared.places.Field.{Field}, declared.tables.SwapType.{SwapType}, declared.trailer.Flag.{Flag}}
 use Rattle.mc_trailer.specs.declared.trailer.Trailer.{Trailer}
 use Rattle.mc_trailer.specs.declared.tables.SwapType.TheVariants as kinds
 

@@ -1,22 +1,13 @@
 -- How a boot on its way is seen: how far it has come, what a step does, and what is left of it.
 use Rattle.std.proofs.Common.{subst, sym, ◌∙◌}
 use Rattle.std.specs.Prelude.{Bool, Err, IfSome, List, None, Ok, Option, Result, Some, [], drop, false, if◌then◌else◌, length, take, true, ℕ, ◌*◌, ◌+◌, ◌<◌, ◌∷◌, ◌≡◌, ◌≤◌}
-use Rattle.mc_boot.specs.Outcome.{applied, happening}
-use Rattle.mc_boot.specs.Plan.{Plan, PowerOn, new_list, plan, power_on, powered, resumed_list}
-use Rattle.mc_boot.specs.declared.boot.Boot.{Boot}
-use Rattle.mc_boot.specs.declared.course.Course.{Course}
-use Rattle.mc_boot.specs.declared.course.Opening.{Opening}
-use Rattle.mc_boot.specs.declared.course.Opening.TheVariants.{New, Resumed}
+use Rattle.mc_boot.specs.{Outcome.{applied, happening}, Plan.{Plan, PowerOn, new_list, plan, power_on, powered, resumed_list}, declared.boot.Boot.{Boot}}
+use Rattle.mc_boot.specs.{declared.course.Course.{Course}, declared.course.Opening.{Opening}, declared.course.Opening.TheVariants.{New, Resumed}}
 use Rattle.mc_boot.specs.declared.transfer.Transfer.{Transfer}
-use Rattle.mc_flash.specs.Flash.{Content, IsSized, sectors_of}
-use Rattle.mc_flash.specs.Geometry.{Geometry, in_pieces}
-use Rattle.mc_flash.specs.Usage.{Counts, Does, Keeps, LeaveRoom, Seen, most_operations, most_saved, plus, saves}
-use Rattle.mc_flash.specs.declared.flash.FlashError.{FlashError}
-use Rattle.mc_flash.specs.declared.flash.Grain.{Grain}
-use Rattle.mc_flash.specs.declared.op.Op.{Op}
-use Rattle.mc_flash.specs.facts.Spends.{keeps_both}
-use Rattle.mc_trailer.specs.declared.tables.Rules.{Rules}
-use Rattle.mc_trailer.specs.declared.tables.SwapType.{SwapType}
+use Rattle.mc_flash.specs.{Flash.{Content, IsSized, sectors_of}, Geometry.{Geometry, in_pieces}}
+use Rattle.mc_flash.specs.{Usage.{Counts, Does, Keeps, LeaveRoom, Seen, most_operations, most_saved, plus, saves}, declared.flash.FlashError.{FlashError}}
+use Rattle.mc_flash.specs.{declared.flash.Grain.{Grain}, declared.op.Op.{Op}, facts.Spends.{keeps_both}}
+use Rattle.mc_trailer.specs.{declared.tables.Rules.{Rules}, declared.tables.SwapType.{SwapType}}
 use Rattle.mc_flash.specs.declared.flash.FlashError.TheVariants as errors
 
 -- The operations of a course.

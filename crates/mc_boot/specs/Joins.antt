@@ -1,16 +1,10 @@
 -- Where a boot after a power cut goes on with the boot that was cut, and what follows of its outcome.
 use Rattle.std.specs.Bool.{beq}
 use Rattle.std.specs.Prelude.{Bool, None, Option, Some, false, if◌then◌else◌, length, nat_le, not, option_and_then, true, ℕ, ◌&&◌, ◌*◌, ◌+◌, ◌-◌, ◌/◌, ◌<◌, ◌==◌, ◌||◌, ◌≡◌}
-use Rattle.mc_boot.specs.Boot.{HasCome, IsBootOf, all_of, course_list, progress}
-use Rattle.mc_boot.specs.Outcome.{Report, ops_of, outcome_of}
-use Rattle.mc_boot.specs.Plan.{PowerOn, is_revert, number_of, opening_writes, plan, preparation_writes}
-use Rattle.mc_boot.specs.declared.boot.Boot.{Boot}
-use Rattle.mc_boot.specs.declared.course.Course.{Course}
-use Rattle.mc_boot.specs.declared.course.Opening.{Opening}
-use Rattle.mc_boot.specs.declared.course.Opening.TheVariants.{New, Resumed}
-use Rattle.mc_flash.specs.Flash.{Content, IsSized}
-use Rattle.mc_flash.specs.Geometry.{Geometry, trailer_sectors}
-use Rattle.mc_flash.specs.declared.flash.Grain.{Grain}
+use Rattle.mc_boot.specs.{Boot.{HasCome, IsBootOf, all_of, course_list, progress}, Outcome.{Report, ops_of, outcome_of}}
+use Rattle.mc_boot.specs.{Plan.{PowerOn, is_revert, number_of, opening_writes, plan, preparation_writes}, declared.boot.Boot.{Boot}}
+use Rattle.mc_boot.specs.{declared.course.Course.{Course}, declared.course.Opening.{Opening}, declared.course.Opening.TheVariants.{New, Resumed}}
+use Rattle.mc_flash.specs.{Flash.{Content, IsSized}, Geometry.{Geometry, trailer_sectors}, declared.flash.Grain.{Grain}}
 use Rattle.mc_trailer.specs.declared.tables.SwapType.{SwapType}
 use Rattle.mc_flash.specs.declared.flash.Grain.TheVariants as grains
 

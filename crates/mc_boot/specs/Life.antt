@@ -3,26 +3,17 @@
 -- with the automaton as a table. That a test is taken back unless its image has set image-ok is from MCUboot's design document
 -- ("swap types", "image trailer"); what else may happen to the flash, and when, is this project's own choice.
 use Rattle.std.specs.Prelude.{◌≡◌, ◌≢◌, ◌⊎◌, ℕ, ◌==◌, Bool, true, false, not, ◌&&◌, ◌||◌, if◌then◌else◌, List, [], ◌∷◌, length, Option, Some, option_map, ◌+◌, ◌≤◌, take}
-use Rattle.mc_flash.specs.Flash.{Content, IsSized, put, size_of, with_bytes, CanTry, apply}
-use Rattle.mc_flash.specs.Geometry.{Geometry, IsLayout, fits}
-use Rattle.mc_flash.specs.declared.op.Op.{Op}
-use Rattle.mc_flash.specs.declared.op.Op.TheVariants.{Copy, Erase, Program}
-use Rattle.mc_flash.specs.declared.op.Slot.{Slot}
-use Rattle.mc_flash.specs.declared.op.Slot.TheVariants.{Primary, Secondary}
-use Rattle.mc_image.specs.Image.{IsBytes}
-use Rattle.mc_image.specs.Valid.{Identity, id_of, is_valid}
+use Rattle.mc_flash.specs.{Flash.{Content, IsSized, put, size_of, with_bytes, CanTry, apply}, Geometry.{Geometry, IsLayout, fits}, declared.op.Op.{Op}}
+use Rattle.mc_flash.specs.{declared.op.Op.TheVariants.{Copy, Erase, Program}, declared.op.Slot.{Slot}, declared.op.Slot.TheVariants.{Primary, Secondary}}
+use Rattle.mc_image.specs.{Image.{IsBytes}, Valid.{Identity, id_of, is_valid}}
 use Rattle.mc_trailer.specs.Trailer.{trailer_of, place, room}
 use Rattle.mc_trailer.specs.declared.places.Field.TheVariants as field
-use Rattle.mc_trailer.specs.Tables.{is_good, is_set, is_unset, reverts_at}
-use Rattle.mc_trailer.specs.declared.tables.Profile.{Profile}
-use Rattle.mc_trailer.specs.declared.tables.Rules.{Rules}
+use Rattle.mc_trailer.specs.{Tables.{is_good, is_set, is_unset, reverts_at}, declared.tables.Profile.{Profile}, declared.tables.Rules.{Rules}}
 use Rattle.mc_trailer.specs.declared.tables.SwapType.{SwapType}
 use Rattle.mc_trailer.specs.declared.tables.SwapType.TheVariants as kinds
 use Rattle.mc_trailer.specs.declared.trailer.Trailer.{Trailer}
 use Rattle.mc_boot.specs.Restart.{confirmed, may_confirm, start_flash, AreExchanged, BeginsImage, IsSettled, IsTested, forgets_reverts}
-use Rattle.mc_boot.specs.Plan.{image_size, plan, PowerOn, power_on}
-use Rattle.mc_boot.specs.Outcome.{outcome_of, cut_at, is_faulted, left_by, ops_of}
-use Rattle.mc_boot.specs.declared.kind.Kind.{Kind}
+use Rattle.mc_boot.specs.{Plan.{image_size, plan, PowerOn, power_on}, Outcome.{outcome_of, cut_at, is_faulted, left_by, ops_of}, declared.kind.Kind.{Kind}}
 use Rattle.mc_boot.specs.declared.kind.Kind.TheVariants as starts
 use Rattle.mc_boot.specs.declared.outcome.BootResult.{BootResult}
 use Rattle.mc_boot.specs.declared.outcome.BootResult.TheVariants as results

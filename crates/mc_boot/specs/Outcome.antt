@@ -1,17 +1,10 @@
 -- What happens of a plan, the flash after power cuts, and the outcome of a boot with its text (docs/MODEL.md, "Boots").
 use Rattle.std.specs.Prelude.{Bool, List, None, Option, Some, [], codes, decimal, false, if◌then◌else◌, length, nat_lt, option_and_then, option_map, take, true, ℕ, ◌++◌, ◌∷◌}
 use Rattle.hex.specs.Hex.{encode_lower}
-use Rattle.mc_boot.specs.Plan.{PowerOn, again, identity_of, plan, power_on}
-use Rattle.mc_boot.specs.declared.outcome.BootResult.{BootResult}
-use Rattle.mc_boot.specs.declared.outcome.Outcome.{Outcome}
-use Rattle.mc_flash.specs.Flash.{Content, apply}
-use Rattle.mc_flash.specs.Geometry.{Geometry}
-use Rattle.mc_flash.specs.declared.op.Op.{Op}
-use Rattle.mc_image.specs.Valid.{Identity, id_of, is_valid}
-use Rattle.mc_image.specs.VersionText.{version_line}
-use Rattle.mc_trailer.specs.Tables.{type_text}
-use Rattle.mc_trailer.specs.declared.tables.Rules.{Rules}
-use Rattle.mc_trailer.specs.declared.tables.SwapType.{SwapType}
+use Rattle.mc_boot.specs.{Plan.{PowerOn, again, identity_of, plan, power_on}, declared.outcome.BootResult.{BootResult}, declared.outcome.Outcome.{Outcome}}
+use Rattle.mc_flash.specs.{Flash.{Content, apply}, Geometry.{Geometry}, declared.op.Op.{Op}}
+use Rattle.mc_image.specs.{Valid.{Identity, id_of, is_valid}, VersionText.{version_line}}
+use Rattle.mc_trailer.specs.{Tables.{type_text}, declared.tables.Rules.{Rules}, declared.tables.SwapType.{SwapType}}
 use Rattle.mc_trailer.specs.declared.tables.SwapType.TheVariants as kinds
 use Rattle.mc_boot.specs.declared.outcome.BootResult.TheVariants as results
 

@@ -1,26 +1,14 @@
 -- What a boot begins with, and its plan: the list of operations that follows from that alone (docs/MODEL.md, "Boots").
-use Rattle.std.specs.Int.{div_ceil}
-use Rattle.std.specs.List.{between, range_with_len}
+use Rattle.std.specs.{Int.{div_ceil}, List.{between, range_with_len}}
 use Rattle.std.specs.Prelude.{Bool, List, None, Option, Some, [], drop, false, flat_map, if◌then◌else◌, is_none, length, map, max, nat_lt, not, option_map, position, true, ℕ, ◌&&◌, ◌*◌, ◌++◌, ◌+◌, ◌-◌, ◌/◌, ◌==◌, ◌||◌, ◌∷◌}
-use Rattle.mc_boot.specs.declared.image.ImageId.{ImageId}
-use Rattle.mc_boot.specs.declared.image.Images.{Images}
-use Rattle.mc_boot.specs.declared.transfer.Transfer.{Transfer}
-use Rattle.mc_flash.specs.Flash.{Content, sectors_of}
-use Rattle.mc_flash.specs.Geometry.{Geometry, greatest_sectors, in_pieces, trailer_sectors}
-use Rattle.mc_flash.specs.Usage.{Seen}
-use Rattle.mc_flash.specs.declared.flash.Grain.{Grain}
-use Rattle.mc_flash.specs.declared.op.Op.{Op}
-use Rattle.mc_flash.specs.declared.op.Op.TheVariants.{Copy, Erase, Program}
-use Rattle.mc_flash.specs.declared.op.Slot.{Slot}
+use Rattle.mc_boot.specs.{declared.image.ImageId.{ImageId}, declared.image.Images.{Images}, declared.transfer.Transfer.{Transfer}}
+use Rattle.mc_flash.specs.{Flash.{Content, sectors_of}, Geometry.{Geometry, greatest_sectors, in_pieces, trailer_sectors}, Usage.{Seen}}
+use Rattle.mc_flash.specs.{declared.flash.Grain.{Grain}, declared.op.Op.{Op}, declared.op.Op.TheVariants.{Copy, Erase, Program}, declared.op.Slot.{Slot}}
 use Rattle.mc_flash.specs.declared.op.Slot.TheVariants.{Primary, Secondary}
-use Rattle.mc_image.specs.Image.{image_in, image_text}
-use Rattle.mc_image.specs.Valid.{Identity, first_fault, is_valid}
+use Rattle.mc_image.specs.{Image.{image_in, image_text}, Valid.{Identity, first_fault, is_valid}}
 use Rattle.mc_trailer.specs.Tables.{is_resumed, is_unset, table_of}
-use Rattle.mc_trailer.specs.Trailer.{entry_place, highest_entry, magic_bytes, one_unit, place, size_bytes, trailer_of}
-use Rattle.mc_trailer.specs.declared.places.Field.{Field}
-use Rattle.mc_trailer.specs.declared.tables.Rules.{Rules}
-use Rattle.mc_trailer.specs.declared.tables.SwapType.{SwapType}
-use Rattle.mc_trailer.specs.declared.trailer.Flag.{Flag}
+use Rattle.mc_trailer.specs.{Trailer.{entry_place, highest_entry, magic_bytes, one_unit, place, size_bytes, trailer_of}, declared.places.Field.{Field}}
+use Rattle.mc_trailer.specs.{declared.tables.Rules.{Rules}, declared.tables.SwapType.{SwapType}, declared.trailer.Flag.{Flag}}
 use Rattle.mc_trailer.specs.declared.trailer.Trailer.{Trailer}
 use Rattle.mc_trailer.specs.declared.places.Field.TheVariants as field
 use Rattle.mc_flash.specs.declared.flash.Grain.TheVariants as grains

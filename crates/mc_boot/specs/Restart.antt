@@ -1,20 +1,12 @@
 -- Start flashes, and what the restart theorem says of them, in one round and in two (docs/MODEL.md, "Start flashes").
 use Rattle.std.specs.Prelude.{Bool, Err, List, Ok, Option, Result, Some, [], false, if◌then◌else◌, length, option_map, replicate, take, true, ℕ, ◌&&◌, ◌*◌, ◌++◌, ◌-◌, ◌∷◌, ◌≡◌, ◌≢◌}
-use Rattle.mc_boot.specs.Outcome.{after, is_faulted, left_by, outcome_of}
-use Rattle.mc_boot.specs.Plan.{PowerOn, again, image_ok_write, image_size, plain, plan, power_on}
+use Rattle.mc_boot.specs.{Outcome.{after, is_faulted, left_by, outcome_of}, Plan.{PowerOn, again, image_ok_write, image_size, plain, plan, power_on}}
 use Rattle.mc_boot.specs.declared.kind.Kind.{Kind}
-use Rattle.mc_flash.specs.Flash.{Content, is_blank, put, size_of, with_bytes}
-use Rattle.mc_flash.specs.Geometry.{Geometry, IsLayout, fits}
-use Rattle.mc_flash.specs.Usage.{Counts, Does, Seen}
-use Rattle.mc_flash.specs.declared.flash.FlashError.{FlashError}
-use Rattle.mc_flash.specs.declared.flash.Grain.{Grain}
-use Rattle.mc_flash.specs.declared.op.Slot.{Slot}
+use Rattle.mc_flash.specs.{Flash.{Content, is_blank, put, size_of, with_bytes}, Geometry.{Geometry, IsLayout, fits}, Usage.{Counts, Does, Seen}}
+use Rattle.mc_flash.specs.{declared.flash.FlashError.{FlashError}, declared.flash.Grain.{Grain}, declared.op.Slot.{Slot}}
 use Rattle.mc_flash.specs.declared.op.Slot.TheVariants.{Primary, Secondary}
-use Rattle.mc_image.specs.Image.{IsBytes}
-use Rattle.mc_image.specs.Valid.{id_of, is_valid}
-use Rattle.mc_trailer.specs.Tables.{is_good, is_set}
-use Rattle.mc_trailer.specs.Trailer.{bytes_at, magic_bytes, one_unit, place, trailer_of}
-use Rattle.mc_trailer.specs.declared.tables.Profile.{Profile}
+use Rattle.mc_image.specs.{Image.{IsBytes}, Valid.{id_of, is_valid}}
+use Rattle.mc_trailer.specs.{Tables.{is_good, is_set}, Trailer.{bytes_at, magic_bytes, one_unit, place, trailer_of}, declared.tables.Profile.{Profile}}
 use Rattle.mc_trailer.specs.declared.tables.Rules.{Rules}
 use Rattle.mc_flash.specs.declared.flash.FlashError.TheVariants as errors
 use Rattle.mc_trailer.specs.declared.places.Field.TheVariants as field

@@ -1,9 +1,7 @@
 -- Where the flashes after a power cut lie among those of the boot that was cut.
 use Rattle.std.specs.Prelude.{◌≡◌, ℕ, ◌+◌, ◌<◌, ◌≤◌, nat_le, max, if◌then◌else◌, length}
 use Rattle.mc_flash.specs.Flash.{Content}
-use Rattle.mc_boot.specs.Outcome.{at, ops_of}
-use Rattle.mc_boot.specs.declared.shared_tail.SharedTail.{SharedTail}
-use Rattle.mc_boot.specs.Plan.{PowerOn, again}
+use Rattle.mc_boot.specs.{Outcome.{at, ops_of}, declared.shared_tail.SharedTail.{SharedTail}, Plan.{PowerOn, again}}
 
 -- After how many operations of the boot that was cut the flash was what it is after that number of the next one. After the erases
 -- that the next one begins with it makes the same operations. Among them: those that were made already change nothing, where the

@@ -1,16 +1,10 @@
 -- The whole swap of the largest images for a test.
-use Rattle.std.specs.Prelude.{◌≡◌, ℕ, max, List, length, Some}
-use Rattle.std.specs.Int.{div_ceil}
-use Rattle.mc_flash.specs.Flash.{Content}
-use Rattle.mc_flash.specs.Geometry.{Geometry, greatest_sectors, in_pieces}
-use Rattle.mc_flash.specs.Largest.{largest_image}
-use Rattle.mc_flash.specs.declared.flash.Grain.{Grain}
+use Rattle.std.specs.{Prelude.{◌≡◌, ℕ, max, List, length, Some}, Int.{div_ceil}}
+use Rattle.mc_flash.specs.{Flash.{Content}, Geometry.{Geometry, greatest_sectors, in_pieces}, Largest.{largest_image}, declared.flash.Grain.{Grain}}
 use Rattle.mc_flash.specs.declared.op.Op.{Op}
 use Rattle.mc_trailer.specs.declared.tables.Rules.{Rules}
 use Rattle.mc_trailer.specs.declared.tables.SwapType.TheVariants as kinds
-use Rattle.mc_boot.specs.Plan.{new_list, image_size, power_on}
-use Rattle.mc_boot.specs.Restart.{BeginsImage, start_flash}
-use Rattle.mc_boot.specs.Outcome.{ops_of}
+use Rattle.mc_boot.specs.{Plan.{new_list, image_size, power_on}, Restart.{BeginsImage, start_flash}, Outcome.{ops_of}}
 use Rattle.mc_boot.specs.declared.kind.Kind.TheVariants as starts
 
 -- Its operations.

@@ -2,8 +2,7 @@
 use Rattle.std.specs.Prelude.{List, Ok, ℕ}
 use Rattle.std.proofs.Common.{inl, inr, subst}
 use Rattle.mc_start.specs.Start.{Started, begun}
-use Rattle.mc_c.specs.Exports.{Answer, Begins, OfSchedule, TextOf}
-use Rattle.mc_c.specs.declared.source.Source.{Source}
+use Rattle.mc_c.specs.{Exports.{Answer, Begins, OfSchedule, TextOf}, declared.source.Source.{Source}}
 
 module _ (Is : Started → List ℕ → List ℕ → Type 0) (n : Source) (a b cuts : List ℕ) where
   pub of_engine : (at : Started × List ℕ) → Begins n a b cuts (Ok at) → (answer : Answer) → TextOf (begun at.0) at.1 (Is at.0 at.1) answer → OfSchedule Is n a b cuts answer

@@ -1,34 +1,25 @@
 -- What a caller in another language asks for, and what it finds in its buffers (docs/LIBRARY.md).
 use Rattle.std.specs.Prelude.{Bool, true, false, ◌≡◌, ◌⊎◌, ℕ, ◌<◌, ◌≤◌, ◌==◌, if◌then◌else◌, List, [], length, take, Option, Some, None, option_and_then, option_map, Result, Ok, Err, Vec}
 use Rattle.std.specs.declared.alloc.Global.{Global}
-use Rattle.mc_flash.specs.Flash.{Content}
-use Rattle.mc_flash.specs.Geometry.{Geometry, of_numbers, refusal_of}
-use Rattle.mc_flash.specs.declared.flash.Grain.{Grain}
+use Rattle.mc_flash.specs.{Flash.{Content}, Geometry.{Geometry, of_numbers, refusal_of}, declared.flash.Grain.{Grain}}
 use Rattle.mc_flash.specs.declared.flash.Grain.TheVariants as grains
 use Rattle.mc_trailer.specs.declared.tables.Profile.{Profile}
 use Rattle.mc_trailer.specs.declared.tables.Profile.TheVariants as profiles
 use Rattle.mc_trailer.specs.declared.tables.Rules.{Rules}
-use Rattle.mc_boot.specs.Outcome.{Report, after, outcome_text}
-use Rattle.mc_boot.specs.Plan.{PowerOn}
+use Rattle.mc_boot.specs.{Outcome.{Report, after, outcome_text}, Plan.{PowerOn}}
 use Rattle.mc_boot.specs.declared.kind.Kind.TheVariants as kinds
-use Rattle.mc_start.specs.Start.{Started, Starts, Gives, begun, of_flash}
-use Rattle.mc_start.specs.declared.start.StartError.{StartError}
-use Rattle.mc_explore.specs.Census.{IsCensus, census_text}
-use Rattle.mc_explore.specs.Page.{PageIsOut}
-use Rattle.mc_explore.specs.Rows.{State, after_key, at_start, subject}
-use Rattle.mc_explore.specs.Schedules.{CannotOccurAt, IsMember, IsReplayed}
-use Rattle.mc_explore.specs.declared.census.CensusOf.{CensusOf}
+use Rattle.mc_start.specs.{Start.{Started, Starts, Gives, begun, of_flash}, declared.start.StartError.{StartError}}
+use Rattle.mc_explore.specs.{Census.{IsCensus, census_text}, Page.{PageIsOut}, Rows.{State, after_key, at_start, subject}}
+use Rattle.mc_explore.specs.{Schedules.{CannotOccurAt, IsMember, IsReplayed}, declared.census.CensusOf.{CensusOf}}
 use Rattle.mc_explore.specs.declared.error.ExploreError.TheVariants as explored
 use Rattle.mc_explore.specs.declared.replays.ReplayError.TheVariants as replays
-use Rattle.mc_trace.specs.Sectors.{IsAt, picture, slots_bytes}
-use Rattle.mc_trace.specs.Trace.{trace_text}
+use Rattle.mc_trace.specs.{Sectors.{IsAt, picture, slots_bytes}, Trace.{trace_text}}
 use Rattle.mc_trace.specs.declared.error.TraceError.TheVariants as traces
 use Rattle.mc_trace.specs.declared.sectors.Moment.TheVariants as moments
 use Rattle.mc_trace.specs.declared.sectors.View.{View}
 use Rattle.mc_trace.specs.declared.cells.Words.TheVariants as words
 use Rattle.mc_trace.specs.declared.trace.Span.{Span}
-use Rattle.mc_options.specs.Statuses.{status_of}
-use Rattle.mc_options.specs.declared.refusal.Refusal.{Refusal}
+use Rattle.mc_options.specs.{Statuses.{status_of}, declared.refusal.Refusal.{Refusal}}
 use Rattle.mc_options.specs.declared.refusal.Refusal.TheVariants as refusals
 use Rattle.mc_c.specs.declared.source.Origin.{Origin}
 use Rattle.mc_c.specs.declared.source.Origin.TheVariants as origins

@@ -1,31 +1,18 @@
 -- A walk along the cuts of a campaign.
 use Rattle.std.specs.Prelude.{◌≡◌, ℕ, zero, suc, ◌+◌, ◌-◌, ◌<◌, ◌≤◌, ◌^◌, Bool, true, false, List, [], ◌∷◌, ◌++◌, length, take, drop, get_or, if◌then◌else◌, ◌↔◌, Option, Some, None, SomeIff, refl}
-use Rattle.std.proofs.Common.{arith, inl, inr, sym, ap, subst, ◌∙◌}
-use Rattle.std.proofs.Math.Seq.{drop-append_seam}
-use Rattle.std.proofs.lemmas.Bool.{cases_lt}
+use Rattle.std.proofs.{Common.{arith, inl, inr, sym, ap, subst, ◌∙◌}, Math.Seq.{drop-append_seam}, lemmas.Bool.{cases_lt}}
 use Rattle.std.proofs.lemmas.List.{length-take-le, take_all, take_more}
 use Rattle.mc_tree.specs.Tree.{Tree, labelled, landed, RoundNode, round_one, round_two, label, labels}
-use Rattle.mc_tree.specs.facts.Order.{allowed-last, allowed_prefix, not_same, paths_in_order, pairs_in_order}
-use Rattle.mc_tree.specs.facts.Rounds.{inside, outside, pairs_precede}
-use Rattle.mc_flash.specs.Flash.{Content}
-use Rattle.mc_flash.specs.Geometry.{Geometry, IsLayout}
-use Rattle.mc_flash.specs.facts.Usage.{few_operations}
+use Rattle.mc_tree.specs.{facts.Order.{allowed-last, allowed_prefix, not_same, paths_in_order, pairs_in_order}, facts.Rounds.{inside, outside, pairs_precede}}
+use Rattle.mc_flash.specs.{Flash.{Content}, Geometry.{Geometry, IsLayout}, facts.Usage.{few_operations}}
 use Rattle.mc_trailer.specs.declared.tables.Rules.{Rules}
-use Rattle.mc_boot.specs.Plan.{power_on}
-use Rattle.mc_boot.specs.Outcome.{ops_of}
-use Rattle.mc_boot.specs.facts.Bounds.{few_ops}
-use Rattle.mc_walk.specs.Walks.{Walked, GoesDown, IsSame, IsThere, origin_of}
-use Rattle.mc_walk.specs.facts.Same.{path_back, same_back}
-use Rattle.mc_explore.specs.inner.OneRound.{boots}
-use Rattle.mc_explore.specs.facts.Summaries.{width_is}
-use Rattle.mc_campaign.specs.inner.TwoRounds.{cuts_along, rounds, second_start, AreSummaries}
-use Rattle.mc_campaign.specs.Campaigns.{IsMember}
+use Rattle.mc_boot.specs.{Plan.{power_on}, Outcome.{ops_of}, facts.Bounds.{few_ops}}
+use Rattle.mc_walk.specs.{Walks.{Walked, GoesDown, IsSame, IsThere, origin_of}, facts.Same.{path_back, same_back}}
+use Rattle.mc_explore.specs.{inner.OneRound.{boots}, facts.Summaries.{width_is}, inner.Exploring.{NoAllocationFailed}}
+use Rattle.mc_campaign.specs.{inner.TwoRounds.{cuts_along, rounds, second_start, AreSummaries}, Campaigns.{IsMember}}
 use Rattle.mc_campaign.specs.inner.View.{FollowsCampaign, HasChildOf, IsPathIn, begun_of}
-use Rattle.mc_explore.specs.inner.Exploring.{NoAllocationFailed}
 use Rattle.mc_campaign.specs.declared.campaign.Round.TheVariants as rounds_of
-use Rattle.mc_campaign.specs.declared.rounds.Both.{Both}
-use Rattle.mc_campaign.specs.declared.rounds.TwoRounds.{TwoRounds}
-use Rattle.mc_campaign.specs.facts.Paths.{path_of}
+use Rattle.mc_campaign.specs.{declared.rounds.Both.{Both}, declared.rounds.TwoRounds.{TwoRounds}, facts.Paths.{path_of}}
 use Rattle.mc_campaign.proofs.Replays.{kind_of}
 
 -- ---- labels along a path

@@ -1,10 +1,7 @@
 -- The cuts along a path, one after another.
-use Rattle.std.specs.Prelude.{◌≡◌, ◌≢◌, ℕ, get_or, ◌==◌, if◌then◌else◌, Bool, true, false, List, [], ◌∷◌, ◌++◌, refl}
+use Rattle.std.specs.{Prelude.{◌≡◌, ◌≢◌, ℕ, get_or, ◌==◌, if◌then◌else◌, Bool, true, false, List, [], ◌∷◌, ◌++◌, refl}, List.{slice_get}}
 use Rattle.std.proofs.Common.{arith, length-append, subst, zero, suc, ◌+◌, ◌<◌, ◌≤◌, length, take, Option, Some, None, sym, ap, append-nil, ◌∙◌}
-use Rattle.std.specs.List.{slice_get}
-use Rattle.std.proofs.lemmas.Bool.Decides.{nat_tests}
-use Rattle.std.proofs.lemmas.List.{take_all, take_more}
-use Rattle.std.proofs.lemmas.Option.{get_or_from_slice_get, slice_get_within}
+use Rattle.std.proofs.{lemmas.Bool.Decides.{nat_tests}, lemmas.List.{take_all, take_more}, lemmas.Option.{get_or_from_slice_get, slice_get_within}}
 use Rattle.mc_campaign.specs.Campaigns.{in_round}
 
 -- One cut more.

@@ -1,19 +1,12 @@
 -- The texts of campaigns and of their cursors, read cut by cut, and the fixed room of their cuts.
-use Rattle.std.proofs.Common.{ap, append-nil, append_assoc, arith, length-append, rules, subst, sym, ◌∙◌}
-use Rattle.std.proofs.Math.Seq.{drop-append_seam}
-use Rattle.std.proofs.lemmas.Fmt.{decimal_injective}
-use Rattle.std.proofs.lemmas.List.{drop-drop, drop-replicate, drop-set-lt}
+use Rattle.std.proofs.{Common.{ap, append-nil, append_assoc, arith, length-append, rules, subst, sym, ◌∙◌}, Math.Seq.{drop-append_seam}}
+use Rattle.std.proofs.{lemmas.Fmt.{decimal_injective}, lemmas.List.{drop-drop, drop-replicate, drop-set-lt}}
 use Rattle.std.proofs.lemmas.List.Elements.{All-drop, All-head, All-push}
 use Rattle.std.specs.Prelude.{All, Bool, List, Ok, Result, [], codes, decimal, drop, false, get_or, length, refl, replicate, slice_set, true, ℕ, ◌++◌, ◌+◌, ◌-◌, ◌<◌, ◌^◌, ◌∷◌, ◌≡◌, ◌≤◌}
-use Rattle.mc_campaign.specs.Campaigns.{AscendFrom}
-use Rattle.mc_campaign.specs.Texts.{FitsCut, IsCampaign, IsCut, choice_text, cut_text}
-use Rattle.mc_campaign.specs.declared.cursor.CampaignCursor.{CampaignCursor}
-use Rattle.mc_campaign.specs.facts.Cuts.{last_ordered, ordered_prefix}
-use Rattle.mc_campaign.specs.facts.Room.{blanks_after}
-use Rattle.mc_output.specs.facts.Parting.{Lacks, lacks_both, lacks_decimal, no_dash, one_part}
-use Rattle.mc_output.specs.facts.Reading.{IsSpelling}
-use Rattle.mc_start.specs.Start.{IsSchedule, schedule_text}
-use Rattle.mc_start.specs.declared.cursor_fields.StartField.{StartField}
+use Rattle.mc_campaign.specs.{Campaigns.{AscendFrom}, Texts.{FitsCut, IsCampaign, IsCut, choice_text, cut_text}}
+use Rattle.mc_campaign.specs.{declared.cursor.CampaignCursor.{CampaignCursor}, facts.Cuts.{last_ordered, ordered_prefix}, facts.Room.{blanks_after}}
+use Rattle.mc_output.specs.{facts.Parting.{Lacks, lacks_both, lacks_decimal, no_dash, one_part}, facts.Reading.{IsSpelling}}
+use Rattle.mc_start.specs.{Start.{IsSchedule, schedule_text}, declared.cursor_fields.StartField.{StartField}}
 use Rattle.mc_trailer.specs.declared.tables.Rules.{Rules}
 
 -- The text of a campaign, for a reader that goes cut by cut.

@@ -1,18 +1,11 @@
 -- Two rounds that are replayed one after the other, and the outcomes at their end.
 use Rattle.std.proofs.Common.{ap, inl, subst, ◌∙◌}
 use Rattle.std.specs.Prelude.{Bool, List, length, ℕ, ◌+◌, ◌≡◌}
-use Rattle.mc_boot.specs.Outcome.{Report}
-use Rattle.mc_boot.specs.Plan.{PowerOn, power_on}
-use Rattle.mc_boot.specs.Restart.{confirmed_if}
-use Rattle.mc_campaign.specs.Campaigns.{AreReplayed, CannotOccurLater, RefusesCampaign, in_round}
-use Rattle.mc_campaign.specs.declared.rounds.Both.{Both}
-use Rattle.mc_campaign.specs.declared.rounds.ChildBoot.{ChildBoot}
-use Rattle.mc_campaign.specs.declared.rounds.TwoRounds.{TwoRounds}
-use Rattle.mc_campaign.specs.inner.TwoRounds.{two_rounds_model}
-use Rattle.mc_explore.specs.Schedules.{CannotOccurAt, IsReplayed}
-use Rattle.mc_explore.specs.declared.replays.ReplayError.{ReplayError}
-use Rattle.mc_flash.specs.Flash.{Content}
-use Rattle.mc_flash.specs.Geometry.{Geometry}
+use Rattle.mc_boot.specs.{Outcome.{Report}, Plan.{PowerOn, power_on}, Restart.{confirmed_if}}
+use Rattle.mc_campaign.specs.{Campaigns.{AreReplayed, CannotOccurLater, RefusesCampaign, in_round}, declared.rounds.Both.{Both}}
+use Rattle.mc_campaign.specs.{declared.rounds.ChildBoot.{ChildBoot}, declared.rounds.TwoRounds.{TwoRounds}, inner.TwoRounds.{two_rounds_model}}
+use Rattle.mc_explore.specs.{Schedules.{CannotOccurAt, IsReplayed}, declared.replays.ReplayError.{ReplayError}}
+use Rattle.mc_flash.specs.{Flash.{Content}, Geometry.{Geometry}}
 use Rattle.mc_trailer.specs.declared.tables.Rules.{Rules}
 use Rattle.mc_tree.specs.Tree.{RoundNode}
 use Rattle.mc_walk.specs.TreeModel.{TreeModel}

@@ -1,15 +1,10 @@
 -- Where the second round of a campaign begins.
-use Rattle.std.proofs.Common.{ap, arith, length, sym, ◌∙◌}
-use Rattle.std.proofs.lemmas.List.{drop_at, take_at}
+use Rattle.std.proofs.{Common.{ap, arith, length, sym, ◌∙◌}, lemmas.List.{drop_at, take_at}}
 use Rattle.std.specs.Prelude.{Bool, Err, List, MatchResult, Ok, Result, ℕ, ◌++◌, ◌≡◌}
-use Rattle.mc_boot.specs.Outcome.{Report}
-use Rattle.mc_boot.specs.Plan.{PowerOn, again, power_on}
-use Rattle.mc_boot.specs.Restart.{confirmed_if}
+use Rattle.mc_boot.specs.{Outcome.{Report}, Plan.{PowerOn, again, power_on}, Restart.{confirmed_if}}
 use Rattle.mc_campaign.specs.Campaigns.{BeginsSecond}
 use Rattle.mc_explore.specs.Schedules.{IsReplayed}
-use Rattle.mc_flash.specs.Flash.{Content, size_of}
-use Rattle.mc_flash.specs.Geometry.{Geometry}
-use Rattle.mc_flash.specs.declared.op.Slot.TheVariants.{Primary, Secondary}
+use Rattle.mc_flash.specs.{Flash.{Content, size_of}, Geometry.{Geometry}, declared.op.Slot.TheVariants.{Primary, Secondary}}
 use Rattle.mc_start.specs.Start.{of_flash}
 use Rattle.mc_trailer.specs.declared.tables.Rules.{Rules}
 

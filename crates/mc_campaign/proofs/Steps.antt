@@ -2,25 +2,17 @@
 use Rattle.std.specs.Prelude.{◌≡◌, ℕ, ◌+◌, ◌<◌, ◌≤◌, min, Bool, length, Some, Result, Ok, Err, IfOk, refl}
 use Rattle.std.proofs.Common.{arith, sym, ap, subst, ◌∙◌}
 use Rattle.mc_tree.specs.Tree.{RoundNode, round_one, round_two}
-use Rattle.mc_flash.specs.Flash.{Content}
-use Rattle.mc_flash.specs.Geometry.{Geometry, IsLayout}
-use Rattle.mc_flash.specs.Usage.{Counts, no_counts, Seen, Allows, LeaveRoom, plus}
+use Rattle.mc_flash.specs.{Flash.{Content}, Geometry.{Geometry, IsLayout}, Usage.{Counts, no_counts, Seen, Allows, LeaveRoom, plus}}
 use Rattle.mc_flash.specs.facts.Usage.{few_operations}
 use Rattle.mc_trailer.specs.declared.tables.Rules.{Rules}
-use Rattle.mc_boot.specs.Boot.{progress, left_of}
-use Rattle.mc_boot.specs.facts.Bounds.{few_ops}
-use Rattle.mc_boot.specs.Restart.{confirmed_if, one_write}
-use Rattle.mc_boot.specs.Outcome.{left_by, ops_of}
+use Rattle.mc_boot.specs.{Boot.{progress, left_of}, facts.Bounds.{few_ops}, Restart.{confirmed_if, one_write}, Outcome.{left_by, ops_of}}
 use Rattle.mc_boot.specs.declared.boot.Boot.{Boot}
 use Rattle.mc_walk.specs.TreeModel.{IsAt, IsChild, IsChildSummary}
-use Rattle.mc_explore.specs.inner.OneRound.{at_cut, CanPass, CountsAtMost, IsSummary, LeavesAlike, most_of, one_round}
-use Rattle.mc_explore.specs.facts.Occurring.{at_zero}
-use Rattle.mc_explore.specs.facts.Summaries.{first_left, width_is}
-use Rattle.mc_explore.specs.declared.one_round.Summary.{Summary}
+use Rattle.mc_explore.specs.{inner.OneRound.{at_cut, CanPass, CountsAtMost, IsSummary, LeavesAlike, most_of, one_round}, facts.Occurring.{at_zero}}
+use Rattle.mc_explore.specs.{facts.Summaries.{first_left, width_is}, declared.one_round.Summary.{Summary}}
 use Rattle.mc_campaign.specs.inner.TwoRounds.{AreSummaries, content_at, left_of_child_boot, most_of_both, owed_at, two_rounds_model}
 use Rattle.mc_campaign.specs.declared.campaign.Round.TheVariants as rounds_of
-use Rattle.mc_campaign.specs.declared.rounds.Both.{Both}
-use Rattle.mc_campaign.specs.declared.rounds.ChildBoot.{ChildBoot}
+use Rattle.mc_campaign.specs.{declared.rounds.Both.{Both}, declared.rounds.ChildBoot.{ChildBoot}}
 use Rattle.mc_campaign.specs.declared.rounds.ChildBoot.TheVariants as child_boots
 use Rattle.mc_campaign.proofs.Ways.{at_begin, at_first, between, between_left, child, first_at, first_child, same_start, width}
 use Rattle.mc_boot.specs.Plan.{power_on}

@@ -1,34 +1,16 @@
 -- Where what lies below a child of two rounds lies among what lies below its parent.
 use Rattle.std.proofs.Common.{Bool, IfSome, List, None, Option, Some, ap, arith, length, refl, subst, suc, sym, zero, ℕ, ◌+◌, ◌-◌, ◌<◌, ◌∙◌, ◌≡◌, ◌≤◌}
-use Rattle.mc_boot.specs.Outcome.{Report, ops_of, shown}
-use Rattle.mc_boot.specs.Plan.{power_on}
-use Rattle.mc_boot.specs.SharedTail.{IsMovedBy, index_in_parent}
-use Rattle.mc_boot.specs.declared.boot.Boot.{Boot}
-use Rattle.mc_boot.specs.declared.outcome.BootResult.{BootResult}
-use Rattle.mc_boot.specs.declared.shared_tail.SharedTail.{SharedTail}
-use Rattle.mc_boot.specs.facts.Run.{outcome_defined}
+use Rattle.mc_boot.specs.{Outcome.{Report, ops_of, shown}, Plan.{power_on}, SharedTail.{IsMovedBy, index_in_parent}, declared.boot.Boot.{Boot}}
+use Rattle.mc_boot.specs.{declared.outcome.BootResult.{BootResult}, declared.shared_tail.SharedTail.{SharedTail}, facts.Run.{outcome_defined}}
 use Rattle.mc_campaign.proofs.Ways.{child, later_child, same_start}
-use Rattle.mc_campaign.specs.Rows.{end_result}
-use Rattle.mc_campaign.specs.declared.rounds.Both.{Both}
-use Rattle.mc_campaign.specs.facts.Listed.{end_from, report_from}
-use Rattle.mc_campaign.specs.facts.Paths.{some_same}
-use Rattle.mc_campaign.specs.declared.rounds.ChildBoot.{ChildBoot}
-use Rattle.mc_campaign.specs.inner.TwoRounds.{later_from, later_number, rounds, second_start, two_rounds_model}
-use Rattle.mc_explore.specs.Right.{judged}
-use Rattle.mc_explore.specs.declared.expectation.Expectation.{Expectation}
-use Rattle.mc_explore.specs.declared.one_round.Summary.{Summary}
-use Rattle.mc_explore.specs.facts.Tails.{placed_at, placed_late}
-use Rattle.mc_explore.specs.facts.Totals.{totals_weigh}
-use Rattle.mc_explore.specs.inner.OneRound.{GoesOnIn, IsSummary, at_cut, boots, one_round}
-use Rattle.mc_explore.specs.inner.Table.{IsTailOf}
-use Rattle.mc_explore.specs.inner.Totals.{Totals, report_totals, totals}
-use Rattle.mc_flash.specs.Flash.{Content}
-use Rattle.mc_flash.specs.Geometry.{Geometry}
-use Rattle.mc_flash.specs.Usage.{Seen}
+use Rattle.mc_campaign.specs.{Rows.{end_result}, declared.rounds.Both.{Both}, facts.Listed.{end_from, report_from}, facts.Paths.{some_same}}
+use Rattle.mc_campaign.specs.{declared.rounds.ChildBoot.{ChildBoot}, inner.TwoRounds.{later_from, later_number, rounds, second_start, two_rounds_model}}
+use Rattle.mc_explore.specs.{Right.{judged}, declared.expectation.Expectation.{Expectation}, declared.one_round.Summary.{Summary}}
+use Rattle.mc_explore.specs.{facts.Tails.{placed_at, placed_late}, facts.Totals.{totals_weigh}, inner.OneRound.{GoesOnIn, IsSummary, at_cut, boots, one_round}}
+use Rattle.mc_explore.specs.{inner.Table.{IsTailOf}, inner.Totals.{Totals, report_totals, totals}}
+use Rattle.mc_flash.specs.{Flash.{Content}, Geometry.{Geometry}, Usage.{Seen}}
 use Rattle.mc_trailer.specs.declared.tables.Rules.{Rules}
-use Rattle.mc_tree.specs.Tree.{RoundNode, round_one, landed, round_two}
-use Rattle.mc_tree.specs.facts.Rounds.{child_first, child_second}
-use Rattle.mc_tree.specs.facts.Weighed.{from_alike, path_shared}
+use Rattle.mc_tree.specs.{Tree.{RoundNode, round_one, landed, round_two}, facts.Rounds.{child_first, child_second}, facts.Weighed.{from_alike, path_shared}}
 use Rattle.mc_tree.specs.inner.Weights.{IsShared, WeighAlike, from, path_tree, weight}
 use Rattle.mc_walk.specs.TreeModel.{IsChildOf}
 use Rattle.mc_campaign.specs.declared.rounds.ChildBoot.TheVariants as child_boots

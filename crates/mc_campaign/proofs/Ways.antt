@@ -1,20 +1,12 @@
 -- From one node of two rounds to another.
 use Rattle.std.specs.Prelude.{◌≡◌, ℕ, ◌<◌, Bool, length, Option, Some, refl}
 use Rattle.std.proofs.Common.{arith, sym, ap, ◌∙◌}
-use Rattle.mc_tree.specs.Tree.{RoundNode, round_one, round_two, two_rounds_child, two_rounds_width}
-use Rattle.mc_tree.specs.facts.Rounds.{child_first, child_second}
-use Rattle.mc_flash.specs.Flash.{Content}
-use Rattle.mc_flash.specs.Geometry.{Geometry}
-use Rattle.mc_flash.specs.Usage.{Seen}
+use Rattle.mc_tree.specs.{Tree.{RoundNode, round_one, round_two, two_rounds_child, two_rounds_width}, facts.Rounds.{child_first, child_second}}
+use Rattle.mc_flash.specs.{Flash.{Content}, Geometry.{Geometry}, Usage.{Seen}}
 use Rattle.mc_trailer.specs.declared.tables.Rules.{Rules}
-use Rattle.mc_boot.specs.Restart.{confirmed_if}
-use Rattle.mc_boot.specs.facts.Run.{left_defined}
-use Rattle.mc_boot.specs.Outcome.{left_by, ops_of}
-use Rattle.mc_boot.specs.declared.boot.Boot.{Boot}
+use Rattle.mc_boot.specs.{Restart.{confirmed_if}, facts.Run.{left_defined}, Outcome.{left_by, ops_of}, declared.boot.Boot.{Boot}}
 use Rattle.mc_walk.specs.TreeModel.{IsAt}
-use Rattle.mc_explore.specs.inner.OneRound.{at_cut, boots, content_or, IsSummary, one_round}
-use Rattle.mc_explore.specs.facts.Occurring.{at_zero}
-use Rattle.mc_explore.specs.declared.one_round.Summary.{Summary}
+use Rattle.mc_explore.specs.{inner.OneRound.{at_cut, boots, content_or, IsSummary, one_round}, facts.Occurring.{at_zero}, declared.one_round.Summary.{Summary}}
 use Rattle.mc_campaign.specs.inner.TwoRounds.{second_start, began_at, IsLater, later_from, later_number, two_rounds_model}
 use Rattle.mc_campaign.specs.declared.rounds.ChildBoot.TheVariants as child_boots
 use Rattle.mc_boot.specs.Plan.{power_on}

@@ -1,11 +1,8 @@
 -- Campaigns of power cuts in two rounds: which can occur, and what they come to (docs/MODEL.md, "Campaigns of power cuts").
 use Rattle.std.specs.Prelude.{Bool, List, Some, [], if◌then◌else◌, length, ℕ, ⊤, ◌+◌, ◌==◌, ◌∷◌, ◌≡◌, ◌≤◌, ◌⊎◌}
-use Rattle.mc_boot.specs.Outcome.{Report, after, left_by}
-use Rattle.mc_boot.specs.Plan.{PowerOn, again}
-use Rattle.mc_boot.specs.Restart.{confirmed_if}
+use Rattle.mc_boot.specs.{Outcome.{Report, after, left_by}, Plan.{PowerOn, again}, Restart.{confirmed_if}}
 use Rattle.mc_campaign.specs.declared.campaign.Round.{Round}
-use Rattle.mc_explore.specs.Schedules.{CannotOccurAt}
-use Rattle.mc_explore.specs.declared.replays.ReplayError.{ReplayError}
+use Rattle.mc_explore.specs.{Schedules.{CannotOccurAt}, declared.replays.ReplayError.{ReplayError}}
 use Rattle.mc_flash.specs.Flash.{Content}
 use Rattle.mc_tree.specs.Tree.{PairsPrecede}
 use Rattle.mc_explore.specs.declared.replays.ReplayError.TheVariants as errors

@@ -3,8 +3,7 @@ use Rattle.std.specs.Prelude.{ℕ, Bool, List, Option, []}
 use Rattle.mc_tree.specs.Tree as chains
 use Rattle.mc_explore.specs.Pages as pages
 use Rattle.mc_explore.specs.Subject.{rows_of}
-use Rattle.mc_campaign.specs.Campaigns.{Precedes}
-use Rattle.mc_campaign.specs.Rows.{IsRow, campaigns, State, ShownRow}
+use Rattle.mc_campaign.specs.{Campaigns.{Precedes}, Rows.{IsRow, campaigns, State, ShownRow}}
 
 -- The page of the rows to come is out, or a beginning of it.
 abbrev pub PageIsOut : State → State → ℕ → Option (List ℕ) → Option (List ℕ) → Type 0

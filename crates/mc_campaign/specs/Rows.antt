@@ -1,21 +1,12 @@
 -- Campaigns as what is explored: the states of their explorer, their rows with their text, what the restart theorem says of them, and what a row costs.
 use Rattle.std.specs.Prelude.{Bool, List, Result, Some, [], codes, false, true, ℕ, ◌*◌, ◌++◌, ◌+◌, ◌≡◌, ◌≢◌}
-use Rattle.mc_boot.specs.Outcome.{Report, after, shown}
-use Rattle.mc_boot.specs.Plan.{PowerOn, again}
+use Rattle.mc_boot.specs.{Outcome.{Report, after, shown}, Plan.{PowerOn, again}}
 use Rattle.mc_boot.specs.Restart.{BeginsImage, EndsAgain, EndsIn, confirmed_if, forgets_reverts, has_revert, named, other, start_flash}
-use Rattle.mc_boot.specs.declared.kind.Kind.{Kind}
-use Rattle.mc_boot.specs.declared.outcome.BootResult.{BootResult}
-use Rattle.mc_campaign.specs.Campaigns.{AreReplayed, IsMember, Precedes, in_round}
-use Rattle.mc_campaign.specs.Texts.{campaign_text, cursor_of, cursor_text, fields_of}
-use Rattle.mc_campaign.specs.declared.cursor.CampaignCursor.{CampaignCursor}
-use Rattle.mc_campaign.specs.declared.row.CampaignRow.{CampaignRow}
-use Rattle.mc_explore.specs.Rows.{outcome_text, slots_text}
-use Rattle.mc_explore.specs.Schedules.{IsSwapOutcome}
-use Rattle.mc_explore.specs.Subject.{Subject}
-use Rattle.mc_explore.specs.declared.error.ExploreError.{ExploreError}
-use Rattle.mc_flash.specs.Flash.{Content}
-use Rattle.mc_flash.specs.Geometry.{Geometry, IsLayout}
-use Rattle.mc_flash.specs.Usage.{most_operations}
+use Rattle.mc_boot.specs.{declared.kind.Kind.{Kind}, declared.outcome.BootResult.{BootResult}}
+use Rattle.mc_campaign.specs.{Campaigns.{AreReplayed, IsMember, Precedes, in_round}, Texts.{campaign_text, cursor_of, cursor_text, fields_of}}
+use Rattle.mc_campaign.specs.{declared.cursor.CampaignCursor.{CampaignCursor}, declared.row.CampaignRow.{CampaignRow}}
+use Rattle.mc_explore.specs.{Rows.{outcome_text, slots_text}, Schedules.{IsSwapOutcome}, Subject.{Subject}, declared.error.ExploreError.{ExploreError}}
+use Rattle.mc_flash.specs.{Flash.{Content}, Geometry.{Geometry, IsLayout}, Usage.{most_operations}}
 use Rattle.mc_image.specs.Valid.{id_of}
 use Rattle.mc_trailer.specs.declared.tables.Rules.{Rules}
 use Rattle.mc_trailer.specs.declared.tables.SwapType.TheVariants as kinds

@@ -1,14 +1,10 @@
 -- The texts of campaigns and of their cursors: this project's own.
 use Rattle.std.specs.Prelude.{All, Bool, Err, List, Ok, Result, [], codes, decimal, false, length, true, ℕ, ◌++◌, ◌<◌, ◌^◌, ◌∷◌, ◌≡◌, ◌≤◌}
 use Rattle.mc_boot.specs.Plan.{PowerOn}
-use Rattle.mc_campaign.specs.Campaigns.{IsInOrder}
-use Rattle.mc_campaign.specs.declared.campaign.CampaignError.{CampaignError}
-use Rattle.mc_campaign.specs.declared.cursor.CampaignCursor.{CampaignCursor}
+use Rattle.mc_campaign.specs.{Campaigns.{IsInOrder}, declared.campaign.CampaignError.{CampaignError}, declared.cursor.CampaignCursor.{CampaignCursor}}
 use Rattle.mc_explore.specs.declared.subject.Fields.{Fields}
 use Rattle.mc_output.specs.Text.{joined}
-use Rattle.mc_start.specs.Cursor.{IsStartField, rules_text, start_text}
-use Rattle.mc_start.specs.Start.{start_digest}
-use Rattle.mc_start.specs.declared.cursor.CursorError.{CursorError}
+use Rattle.mc_start.specs.{Cursor.{IsStartField, rules_text, start_text}, Start.{start_digest}, declared.cursor.CursorError.{CursorError}}
 use Rattle.mc_output.specs.Text as joining
 
 -- The texts of campaigns: this project's own.

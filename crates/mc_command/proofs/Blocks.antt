@@ -1,6 +1,5 @@
 -- What goes out in blocks.
-use Rattle.std.specs.Prelude.{ℕ, List, Option, Some, None}
-use Rattle.std.specs.Io.KnownBytes.{Keeps, Appends}
+use Rattle.std.specs.{Prelude.{ℕ, List, Option, Some, None}, Io.KnownBytes.{Keeps, Appends}}
 
 -- A text that is written after what a writer held is after it still, where each step keeps what is there.
 pub appended : (a b c d : Option (List ℕ)) (text : List ℕ) → Keeps a b → Appends b c text → Keeps c d → Appends a d text

@@ -2,12 +2,8 @@
 use Rattle.std.proofs.Common.{Bool, List, None, Option, Result, Some, false, not, refl, true, ◌≡◌, ◌↔◌}
 use Rattle.std.specs.Prelude.{IfSome, is_none, is_some}
 use Rattle.mc_boot.specs.Outcome.{Report}
-use Rattle.mc_explore.specs.Right.{AllEndRight}
-use Rattle.mc_explore.specs.Survey.{AllEndInBoot}
-use Rattle.mc_explore.specs.declared.expectation.Expectation.{Expectation}
-use Rattle.mc_explore.specs.declared.rights.RightsOf.{RightsOf}
-use Rattle.mc_command.specs.Verdicts.{IsVerdict, verdict_of}
-use Rattle.mc_command.specs.declared.verdict.Asked.{Asked}
+use Rattle.mc_explore.specs.{Right.{AllEndRight}, Survey.{AllEndInBoot}, declared.expectation.Expectation.{Expectation}, declared.rights.RightsOf.{RightsOf}}
+use Rattle.mc_command.specs.{Verdicts.{IsVerdict, verdict_of}, declared.verdict.Asked.{Asked}}
 use Rattle.mc_options.specs.declared.refusal.Refusal.{Refusal}
 
 -- That holds where it was counted.

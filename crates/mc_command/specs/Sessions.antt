@@ -1,32 +1,21 @@
 -- The starts and the explorations that the options of a command give.
 use Rattle.std.specs.Prelude.{◌≡◌, ℕ, Bool, List, Option, Some, None, Result, Ok, Err, false, not, option_map, true, unwrap_or}
 use Rattle.clap.specs.declared.parser.matches.Found.{Found}
-use Rattle.mc_boot.specs.Plan.{PowerOn}
-use Rattle.mc_boot.specs.declared.kind.Kind.{Kind}
+use Rattle.mc_boot.specs.{Plan.{PowerOn}, declared.kind.Kind.{Kind}}
 use Rattle.mc_boot.specs.declared.kind.Kind.TheVariants as starts
-use Rattle.mc_explore.specs.Census.{IsCensus}
-use Rattle.mc_explore.specs.Pages.{ShownIsOut}
-use Rattle.mc_explore.specs.Right.{AreRights, SurveysRows}
-use Rattle.mc_explore.specs.Subject.{Explored, GoesOnBeyond, Resumes, State, Subject, at_start, rows_of}
-use Rattle.mc_explore.specs.declared.error.ExploreError.{ExploreError}
+use Rattle.mc_explore.specs.{Census.{IsCensus}, Pages.{ShownIsOut}, Right.{AreRights, SurveysRows}}
+use Rattle.mc_explore.specs.{Subject.{Explored, GoesOnBeyond, Resumes, State, Subject, at_start, rows_of}, declared.error.ExploreError.{ExploreError}}
 use Rattle.mc_explore.specs.declared.error.ExploreError.TheVariants as errors
 use Rattle.mc_explore.specs.declared.expectation.Expectation.{Expectation}
 use Rattle.mc_explore.specs.declared.expectation.Wanted.TheVariants as wanted
-use Rattle.mc_explore.specs.declared.rights.RightsOf.{RightsOf}
-use Rattle.mc_explore.specs.declared.subject.Fields.{Fields}
-use Rattle.mc_explore.specs.declared.tally.TallyOf.{TallyOf}
+use Rattle.mc_explore.specs.{declared.rights.RightsOf.{RightsOf}, declared.subject.Fields.{Fields}, declared.tally.TallyOf.{TallyOf}}
 use Rattle.mc_image.specs.Valid.{Identity}
 use Rattle.mc_start.specs.Start.{Started, begun}
-use Rattle.mc_options.specs.Arguments.{GivesExtent, GivesFlash, GivesRange}
-use Rattle.mc_options.specs.Numbers.{GivesNumber}
-use Rattle.mc_options.specs.Sources.{IsStartOf}
-use Rattle.mc_command.specs.Verdicts.{IsExpectation, GivesAsked}
-use Rattle.mc_command.specs.declared.commands.census.Counts.{Counts}
-use Rattle.mc_command.specs.declared.commands.census.Wanted.{Wanted}
+use Rattle.mc_options.specs.{Arguments.{GivesExtent, GivesFlash, GivesRange}, Numbers.{GivesNumber}, Sources.{IsStartOf}}
+use Rattle.mc_command.specs.{Verdicts.{IsExpectation, GivesAsked}, declared.commands.census.Counts.{Counts}, declared.commands.census.Wanted.{Wanted}}
 use Rattle.mc_command.specs.declared.commands.explore.Exploration.{Exploration}
 use Rattle.mc_options.specs.declared.numbers.NumberOption.TheVariants as numbers
-use Rattle.mc_options.specs.declared.options.FlashOptions.{FlashOptions}
-use Rattle.mc_options.specs.declared.options.Source.{Source}
+use Rattle.mc_options.specs.{declared.options.FlashOptions.{FlashOptions}, declared.options.Source.{Source}}
 use Rattle.mc_options.specs.declared.options.Source.TheVariants as sources
 use Rattle.mc_options.specs.declared.refusal.Refusal.{Refusal}
 use Rattle.mc_options.specs.declared.refusal.Refusal.TheVariants as refusals

@@ -1,7 +1,6 @@
 -- What `vectors` is asked for.
 use Rattle.std.specs.Prelude.{List, Some, codes, ℕ, ⊤, ◌≡◌, ◌≤◌}
-use Rattle.clap.specs.Words.{first_value}
-use Rattle.clap.specs.declared.parser.matches.Found.{Found}
+use Rattle.clap.specs.{Words.{first_value}, declared.parser.matches.Found.{Found}}
 use Rattle.mc_options.specs.Numbers.{GivesNumber}
 use Rattle.mc_command.specs.declared.commands.vectors.Cuts.{Cuts}
 use Rattle.mc_command.specs.declared.commands.vectors.Cuts.TheVariants as cuts

@@ -1,19 +1,12 @@
 -- What is to be right at the end, and how a survey and a census end.
 use Rattle.std.specs.Prelude.{◌≡◌, ℕ, Bool, true, false, List, Option, Some, None, [], Result, Ok, Err, IfSome, codes, if◌then◌else◌, is_some, not, ◌&&◌, ◌||◌}
-use Rattle.clap.specs.Words.{first_value}
-use Rattle.clap.specs.declared.parser.matches.Found.{Found}
+use Rattle.clap.specs.{Words.{first_value}, declared.parser.matches.Found.{Found}}
 use Rattle.mc_boot.specs.Outcome.{Report}
-use Rattle.mc_explore.specs.Right.{AllEndRight, Wants, rights_by, rights_text}
-use Rattle.mc_explore.specs.Subject.{Subject}
-use Rattle.mc_explore.specs.Survey.{AllEndInBoot}
-use Rattle.mc_explore.specs.declared.expectation.Expectation.{Expectation}
-use Rattle.mc_explore.specs.declared.expectation.Wanted.{Wanted}
-use Rattle.mc_explore.specs.declared.rights.RightsOf.{RightsOf}
+use Rattle.mc_explore.specs.{Right.{AllEndRight, Wants, rights_by, rights_text}, Subject.{Subject}, Survey.{AllEndInBoot}}
+use Rattle.mc_explore.specs.{declared.expectation.Expectation.{Expectation}, declared.expectation.Wanted.{Wanted}, declared.rights.RightsOf.{RightsOf}}
 use Rattle.mc_image.specs.Valid.{Identity}
-use Rattle.mc_options.specs.Arguments.{IsFlag}
-use Rattle.mc_command.specs.declared.verdict.Asked.{Asked}
-use Rattle.mc_command.specs.declared.verdict.Ends.{Ends}
-use Rattle.mc_options.specs.declared.refusal.Refusal.{Refusal}
+use Rattle.mc_options.specs.{Arguments.{IsFlag}, declared.refusal.Refusal.{Refusal}}
+use Rattle.mc_command.specs.{declared.verdict.Asked.{Asked}, declared.verdict.Ends.{Ends}}
 use Rattle.mc_explore.specs.declared.expectation.Wanted.TheVariants as wanted
 use Rattle.mc_options.specs.declared.refusal.Refusal.TheVariants as refusals
 

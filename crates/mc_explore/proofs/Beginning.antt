@@ -2,10 +2,8 @@
 use Rattle.std.specs.Prelude.{◌≡◌, ◌≤◌, ℕ, Bool, true, false, List, []}
 use Rattle.std.proofs.Common.{arith, ap, ◌∙◌}
 use Rattle.mc_tree.specs.Tree.{After}
-use Rattle.mc_flash.specs.Flash.{Content}
-use Rattle.mc_flash.specs.Usage.{Spent}
-use Rattle.mc_walk.specs.TreeModel.{TreeModel}
-use Rattle.mc_walk.specs.Walks.{Walked, Begins, position_of}
+use Rattle.mc_flash.specs.{Flash.{Content}, Usage.{Spent}}
+use Rattle.mc_walk.specs.{TreeModel.{TreeModel}, Walks.{Walked, Begins, position_of}}
 use Rattle.mc_walk.specs.declared.tour.Phase.TheVariants as phases
 use Rattle.mc_start.specs.Start.{start_digest}
 use Rattle.mc_boot.specs.Plan.{PowerOn}

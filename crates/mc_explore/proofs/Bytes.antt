@@ -1,28 +1,18 @@
 -- Which bytes stand in the texts of schedules, rows and cursors.
 use Rattle.std.specs.Prelude.{◌≡◌, ◌≢◌, ℕ, zero, suc, ◌/◌, ◌%◌, ◌==◌, ◌≤◌, ◌<◌, Bool, true, false, not, if◌then◌else◌, List, [], ◌∷◌, ◌++◌, take, flat_map, slice_index, codes, decimal, All, Option, Some, None, refl}
-use Rattle.std.specs.Fmt.{digits, digits_onto, digit_glyph}
-use Rattle.std.specs.List.{list_all}
-use Rattle.std.specs.Str.{IsUtf8}
-use Rattle.std.specs.Str.Iter.{LacksByte}
-use Rattle.std.proofs.Common.{arith}
-use Rattle.std.proofs.lemmas.Bool.{and_parts, eqb-false, not-true}
-use Rattle.std.proofs.lemmas.List.Elements.{All-nil, All-cons, All-append, All-take, All-weaker}
-use Rattle.std.proofs.lemmas.Str.{IsUtf8-from_ascii}
-use Rattle.std.proofs.lemmas.Str.Ascii.{IsAscii-from_all}
+use Rattle.std.specs.{Fmt.{digits, digits_onto, digit_glyph}, List.{list_all}, Str.{IsUtf8}, Str.Iter.{LacksByte}}
+use Rattle.std.proofs.{Common.{arith}, lemmas.Bool.{and_parts, eqb-false, not-true}, lemmas.List.Elements.{All-nil, All-cons, All-append, All-take, All-weaker}}
+use Rattle.std.proofs.{lemmas.Str.{IsUtf8-from_ascii}, lemmas.Str.Ascii.{IsAscii-from_all}}
 use Rattle.hex.specs.Hex.{encode_lower, encode_with, lower_digits}
 use Rattle.mc_flash.specs.declared.flash.Grain.{Grain}
 use Rattle.mc_flash.specs.declared.flash.Grain.TheVariants as grains
 use Rattle.mc_image.specs.Valid.{Identity}
-use Rattle.mc_trailer.specs.Tables.{type_text}
-use Rattle.mc_trailer.specs.declared.tables.Profile.{Profile}
+use Rattle.mc_trailer.specs.{Tables.{type_text}, declared.tables.Profile.{Profile}}
 use Rattle.mc_trailer.specs.declared.tables.Profile.TheVariants as profiles
 use Rattle.mc_trailer.specs.declared.tables.SwapType.{SwapType}
-use Rattle.mc_boot.specs.Outcome.{result_text}
-use Rattle.mc_boot.specs.declared.outcome.BootResult.{BootResult}
-use Rattle.mc_start.specs.Cursor.{head_text, cursor_text}
+use Rattle.mc_boot.specs.{Outcome.{result_text}, declared.outcome.BootResult.{BootResult}}
+use Rattle.mc_start.specs.{Cursor.{head_text, cursor_text}, Start.{schedule_text}, declared.cursor.Cursor.{Cursor}}
 use Rattle.mc_explore.specs.Rows.{slot_text, row_text, ShownRow}
-use Rattle.mc_start.specs.Start.{schedule_text}
-use Rattle.mc_start.specs.declared.cursor.Cursor.{Cursor}
 
 abbrev pub IsBetween : ℕ → ℕ → ℕ → Type 0
 IsBetween low high c = (low ≤ c) × (c ≤ high)

@@ -1,9 +1,7 @@
 -- The list of schedules, and pages that are continued from their cursors.
 use Rattle.std.proofs.Common.{◌≡◌, ℕ, ◌<◌, false, List, [], ◌∷◌, ◌++◌, length, take, inl, inr, subst, arith}
 use Rattle.mc_tree.specs.Tree.{Precedes}
-use Rattle.mc_explore.specs.Page.{last_schedule, state_past}
-use Rattle.mc_explore.specs.Rows.{IsRest, schedules, after_key, State, ShownRow}
-use Rattle.mc_explore.specs.facts.Listed.{schedules_are_lawful}
+use Rattle.mc_explore.specs.{Page.{last_schedule, state_past}, Rows.{IsRest, schedules, after_key, State, ShownRow}, facts.Listed.{schedules_are_lawful}}
 use Rattle.mc_explore.specs.facts.Listings.{in_order, past_page}
 
 one_is_later : Precedes (1 ∷ []) (0 ∷ 17 ∷ []) → ⊥

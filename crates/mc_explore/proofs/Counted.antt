@@ -1,23 +1,16 @@
 -- The rows of a survey, counted one after another, and whether each ends in a boot.
 use Rattle.std.proofs.Common.{List, None, Option, Some, [], ap, arith, cond, false, length, refl, subst, suc, sym, true, ℕ, ◌++◌, ◌+◌, ◌-◌, ◌<◌, ◌∙◌, ◌∷◌, ◌≡◌, ◌≤◌}
-use Rattle.std.proofs.lemmas.List.{length-append}
-use Rattle.std.proofs.lemmas.List.Sums.{count_by-le-length, fold_push, sum_by-cons}
+use Rattle.std.proofs.{lemmas.List.{length-append}, lemmas.List.Sums.{count_by-le-length, fold_push, sum_by-cons}}
 use Rattle.std.specs.List.{AllByRecursion}
-use Rattle.mc_boot.specs.Outcome.{Report}
-use Rattle.mc_boot.specs.declared.outcome.BootResult.{BootResult}
-use Rattle.mc_explore.proofs.JudgedRows.{none_right, rights_more}
-use Rattle.mc_explore.proofs.PageRows.{AreSoFar, cursor_is, none_so_far, one_more, page_full, page_short, page_with}
+use Rattle.mc_boot.specs.{Outcome.{Report}, declared.outcome.BootResult.{BootResult}}
+use Rattle.mc_explore.proofs.{JudgedRows.{none_right, rights_more}, PageRows.{AreSoFar, cursor_is, none_so_far, one_more, page_full, page_short, page_with}}
 use Rattle.mc_explore.proofs.PageText.{last_on}
-use Rattle.mc_explore.specs.Pages.{FindsBefore, IsLawful}
-use Rattle.mc_explore.specs.Rows.{schedules}
+use Rattle.mc_explore.specs.{Pages.{FindsBefore, IsLawful}, Rows.{schedules}}
 use Rattle.mc_explore.specs.Rows as rows_of_schedules
 use Rattle.mc_explore.specs.Subject.{State, Subject, rows_of}
 use Rattle.mc_explore.specs.Survey.{IsWithin, Surveys, SurveysUntil, Tally, ending_with, is_boot, no_tally, one_row_more, tally_by_now, tally_of}
-use Rattle.mc_explore.specs.Right.{SurveysRows, no_rights, one_judged_more, rights_by}
-use Rattle.mc_explore.specs.declared.expectation.Expectation.{Expectation}
-use Rattle.mc_explore.specs.declared.rights.RightsOf.{RightsOf}
-use Rattle.mc_explore.specs.declared.tally.TallyOf.{TallyOf}
-use Rattle.mc_explore.specs.facts.Whole.{whole_taken}
+use Rattle.mc_explore.specs.{Right.{SurveysRows, no_rights, one_judged_more, rights_by}, declared.expectation.Expectation.{Expectation}}
+use Rattle.mc_explore.specs.{declared.rights.RightsOf.{RightsOf}, declared.tally.TallyOf.{TallyOf}, facts.Whole.{whole_taken}}
 use Rattle.mc_tree.specs.Tree.{After, last_key}
 use Rattle.mc_boot.specs.declared.outcome.BootResult.TheVariants as results
 

@@ -1,34 +1,18 @@
 -- Totals that are cut off, one after another; what the rows of all paths come to is what the tree weighs.
 use Rattle.std.proofs.Common.{Bool, List, None, Option, Some, [], ap, arith, cond, false, if◌then◌else◌, length, map, max, not, option_map, refl, subst, suc, sym, take, true, zero, ℕ, ◌++◌, ◌+◌, ◌-◌, ◌∙◌, ◌∷◌, ◌≡◌, ◌≤◌}
-use Rattle.std.proofs.lemmas.List.{length-map, take-take, take_all}
-use Rattle.std.proofs.lemmas.List.Recursion.{is_count_by}
-use Rattle.std.proofs.lemmas.List.Sums.{sum_by-cons}
+use Rattle.std.proofs.{lemmas.List.{length-map, take-take, take_all}, lemmas.List.Recursion.{is_count_by}, lemmas.List.Sums.{sum_by-cons}}
 use Rattle.std.proofs.lemmas.Option.{same_Some}
-use Rattle.std.specs.List.{find, fold, slice_get}
-use Rattle.std.specs.Option.{option_or}
-use Rattle.std.specs.Prelude.{Contains}
-use Rattle.mc_boot.specs.Outcome.{Report, shown}
-use Rattle.mc_boot.specs.Plan.{PowerOn}
-use Rattle.mc_boot.specs.SharedTail.{index_in_parent}
-use Rattle.mc_boot.specs.declared.outcome.BootResult.{BootResult}
-use Rattle.mc_boot.specs.declared.outcome.Outcome.{Outcome}
-use Rattle.mc_boot.specs.declared.shared_tail.SharedTail.{SharedTail}
-use Rattle.mc_explore.specs.Census.{IsCensusOf, census_by}
-use Rattle.mc_explore.specs.Pages.{IsRest}
-use Rattle.mc_explore.specs.Right.{judged}
-use Rattle.mc_explore.specs.Rows.{ShownRow, report_of}
-use Rattle.mc_explore.specs.Subject.{Subject, at_start, rows_of}
-use Rattle.mc_explore.specs.Survey.{count_if, ending_with, is_boot, is_fault, is_none, is_panic, most_ops}
-use Rattle.mc_explore.specs.declared.census.CensusOf.{CensusOf}
-use Rattle.mc_explore.specs.declared.expectation.Expectation.{Expectation}
-use Rattle.mc_explore.specs.facts.Totals.{totals_weigh}
+use Rattle.std.specs.{List.{find, fold, slice_get}, Option.{option_or}, Prelude.{Contains}}
+use Rattle.mc_boot.specs.{Outcome.{Report, shown}, Plan.{PowerOn}, SharedTail.{index_in_parent}, declared.outcome.BootResult.{BootResult}}
+use Rattle.mc_boot.specs.{declared.outcome.Outcome.{Outcome}, declared.shared_tail.SharedTail.{SharedTail}}
+use Rattle.mc_explore.specs.{Census.{IsCensusOf, census_by}, Pages.{IsRest}, Right.{judged}, Rows.{ShownRow, report_of}, Subject.{Subject, at_start, rows_of}}
+use Rattle.mc_explore.specs.{Survey.{count_if, ending_with, is_boot, is_fault, is_none, is_panic, most_ops}, declared.census.CensusOf.{CensusOf}}
+use Rattle.mc_explore.specs.{declared.expectation.Expectation.{Expectation}, facts.Totals.{totals_weigh}}
 use Rattle.mc_explore.specs.inner.Table.{AreCutOff, IsJoined, IsTailOf, own_totals, weigh, weigh_below}
 use Rattle.mc_explore.specs.inner.Totals.{Totals, merged, cut_off, no_totals, report_totals, row_totals, totals}
 use Rattle.mc_start.specs.Start.{lowered}
-use Rattle.mc_tree.specs.Tree.{IsMember, Tree, landed}
-use Rattle.mc_tree.specs.facts.Existence.{all_from, all_paths, in_all, landed_path}
-use Rattle.mc_tree.specs.facts.Weighed.{AreWeighed, from_more, shared_weight, rows_weigh}
-use Rattle.mc_tree.specs.inner.Weights.{from, path_tree, shared_below, total}
+use Rattle.mc_tree.specs.{Tree.{IsMember, Tree, landed}, facts.Existence.{all_from, all_paths, in_all, landed_path}}
+use Rattle.mc_tree.specs.{facts.Weighed.{AreWeighed, from_more, shared_weight, rows_weigh}, inner.Weights.{from, path_tree, shared_below, total}}
 use Rattle.mc_tree.specs.facts.Lists as lists
 
 abbrev pub Census : Type 0

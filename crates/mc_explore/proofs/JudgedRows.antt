@@ -1,16 +1,10 @@
 -- Rows that pass a test, those that are right, one more of them, and the census of rows that are judged.
 use Rattle.std.proofs.Common.{Bool, List, None, Option, Some, [], ap, arith, cond, false, if◌then◌else◌, is_some, min, not, option_map, refl, sym, true, ◌+◌, ◌-◌, ◌&&◌, ◌++◌, ◌^◌, ◌∙◌, ◌∷◌, ◌≡◌}
-use Rattle.std.proofs.lemmas.List.Folds.{find-append}
-use Rattle.std.proofs.lemmas.List.Sums.{sum_by-append}
-use Rattle.std.specs.List.{AllByRecursion, find}
-use Rattle.std.specs.Option.{option_or}
-use Rattle.std.specs.Prelude.{count_by}
-use Rattle.mc_boot.specs.Outcome.{Report}
-use Rattle.mc_boot.specs.declared.outcome.BootResult.{BootResult}
-use Rattle.mc_explore.specs.Census.{census_by, cut_number}
-use Rattle.mc_explore.specs.declared.census.CensusOf.{CensusOf}
-use Rattle.mc_explore.specs.Right.{is_met, is_right, judged, no_rights, one_judged_more, rights_by}
-use Rattle.mc_explore.specs.Survey.{is_boot}
+use Rattle.std.proofs.{lemmas.List.Folds.{find-append}, lemmas.List.Sums.{sum_by-append}}
+use Rattle.std.specs.{List.{AllByRecursion, find}, Option.{option_or}, Prelude.{count_by}}
+use Rattle.mc_boot.specs.{Outcome.{Report}, declared.outcome.BootResult.{BootResult}}
+use Rattle.mc_explore.specs.{Census.{census_by, cut_number}, declared.census.CensusOf.{CensusOf}}
+use Rattle.mc_explore.specs.{Right.{is_met, is_right, judged, no_rights, one_judged_more, rights_by}, Survey.{is_boot}}
 use Rattle.mc_explore.specs.declared.expectation.Expectation.{Expectation}
 use Rattle.mc_boot.specs.declared.outcome.BootResult.TheVariants as results
 

@@ -1,28 +1,17 @@
 -- From one cut of a boot to the next, and the summary of the flash there.
 use Rattle.std.specs.Prelude.{◌≡◌, ℕ, ◌+◌, ◌<◌, List, [], ◌∷◌, length, None, Option, Some, Result, Ok, Err, IfErr, IfSome, refl}
 use Rattle.std.proofs.Common.{arith, sym, ap, subst, ◌∙◌}
-use Rattle.mc_flash.specs.Flash.{Content}
-use Rattle.mc_flash.specs.Geometry.{Geometry}
-use Rattle.mc_flash.specs.Usage.{Seen, Keeps, Spends, LeaveRoom, plus}
-use Rattle.mc_flash.specs.declared.op.Op.{Op}
+use Rattle.mc_flash.specs.{Flash.{Content}, Geometry.{Geometry}, Usage.{Seen, Keeps, Spends, LeaveRoom, plus}, declared.op.Op.{Op}}
 use Rattle.mc_flash.specs.declared.flash.FlashError.{FlashError}
 use Rattle.mc_flash.specs.declared.flash.FlashError.TheVariants as errors
 use Rattle.mc_trailer.specs.declared.tables.Rules.{Rules}
-use Rattle.mc_boot.specs.Joins.{IsCut}
-use Rattle.mc_boot.specs.Boot.{Progress, IsBootOf, Steps, all_of, begun, progress, left_of, HasCome}
-use Rattle.mc_boot.specs.Outcome.{Report, outcome_of, shown, left_by, ops_of}
-use Rattle.mc_boot.specs.SharedTail.{IsSharedTail}
-use Rattle.mc_boot.specs.declared.shared_tail.SharedTail.{SharedTail}
-use Rattle.mc_boot.specs.Plan.{plan, PowerOn, again, power_on, powered}
-use Rattle.mc_boot.specs.facts.Run.{come_begun, come_left, come_ops}
-use Rattle.mc_boot.specs.facts.Steps.{refused_here, step_counts, step_spends, stepped_here}
-use Rattle.mc_boot.specs.declared.boot.Boot.{Boot}
-use Rattle.mc_boot.specs.declared.outcome.Outcome.{Outcome}
+use Rattle.mc_boot.specs.{Joins.{IsCut}, Boot.{Progress, IsBootOf, Steps, all_of, begun, progress, left_of, HasCome}}
+use Rattle.mc_boot.specs.{Outcome.{Report, outcome_of, shown, left_by, ops_of}, SharedTail.{IsSharedTail}, declared.shared_tail.SharedTail.{SharedTail}}
+use Rattle.mc_boot.specs.{Plan.{plan, PowerOn, again, power_on, powered}, facts.Run.{come_begun, come_left, come_ops}}
+use Rattle.mc_boot.specs.{facts.Steps.{refused_here, step_counts, step_spends, stepped_here}, declared.boot.Boot.{Boot}, declared.outcome.Outcome.{Outcome}}
 use Rattle.mc_walk.specs.TreeModel.{IsAt, IsChildOf, HasNext, ReachesNext}
-use Rattle.mc_explore.specs.inner.OneRound.{at_cut, CanPass, GoesOnIn, IsBegun, IsSummary, Passes, one_round}
-use Rattle.mc_explore.specs.Schedules.{EndsWith}
-use Rattle.mc_explore.specs.declared.one_round.Summary.{Summary}
-use Rattle.mc_explore.specs.facts.Occurring.{at_zero, come_lands}
+use Rattle.mc_explore.specs.{inner.OneRound.{at_cut, CanPass, GoesOnIn, IsBegun, IsSummary, Passes, one_round}, Schedules.{EndsWith}}
+use Rattle.mc_explore.specs.{declared.one_round.Summary.{Summary}, facts.Occurring.{at_zero, come_lands}}
 
 -- Where a boot has come there, it has come on to here.
 abbrev pub ComesOn : Seen → Progress → Seen → Progress → Type 0

@@ -1,12 +1,9 @@
 -- The rows of a page, as they are taken one after another.
 use Rattle.std.specs.Prelude.{nat_le, if◌then◌else◌, Bool, true, false, ◌∷◌, ◌<◌, ◌⊎◌, Contains}
 use Rattle.std.proofs.Common.{◌≡◌, ℕ, suc, ◌+◌, ◌*◌, ◌≤◌, List, [], ◌++◌, length, drop, Some, None, Option, refl, sym, ap, subst, ◌∙◌, append_assoc, append-nil, arith, inl, inr}
-use Rattle.std.proofs.lemmas.Bool.Decides.{nat_tests}
-use Rattle.std.proofs.lemmas.List.{take_all, take_at, length-append}
+use Rattle.std.proofs.{lemmas.Bool.Decides.{nat_tests}, lemmas.List.{take_all, take_at, length-append}}
 use Rattle.std.proofs.lemmas.List.Elements.{All-nil, All-cons, All-head, All-tail, All-same, All-weaker, All-contains_itself}
-use Rattle.mc_tree.specs.Tree.{last_key, Ascends}
-use Rattle.mc_tree.specs.facts.Lists.{pairs_rest, pairs_head}
-use Rattle.mc_tree.specs.facts.Order.{cases_of}
+use Rattle.mc_tree.specs.{Tree.{last_key, Ascends}, facts.Lists.{pairs_rest, pairs_head}, facts.Order.{cases_of}}
 use Rattle.mc_explore.specs.facts.Listings.{rest_next, rest_over}
 use Rattle.mc_explore.specs.Pages.{Listing, IsLawful, IsRest, FindsRow, Page, IsBefore, AreBefore, Shown, rows_taken, TakesPage, FindsBefore, page_at, state_past}
 

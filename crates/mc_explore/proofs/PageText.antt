@@ -1,15 +1,11 @@
 -- A page, as its lines are written one after another.
-use Rattle.std.specs.Prelude.{flat_map, Bool, true, false, ◌∷◌, ◌<◌, ◌≤◌}
+use Rattle.std.specs.{Prelude.{flat_map, Bool, true, false, ◌∷◌, ◌<◌, ◌≤◌}, Io.KnownBytes.{Appends}}
 use Rattle.std.proofs.Common.{◌≡◌, ℕ, suc, ◌+◌, List, [], ◌++◌, length, take, drop, Some, None, Option, refl, sym, ap, subst, ◌∙◌, append_assoc, append-nil, arith}
-use Rattle.std.proofs.lemmas.List.{take_at, take-append-drop}
-use Rattle.std.proofs.lemmas.List.Concat.{flat_map-append}
-use Rattle.std.proofs.Math.Seq.{take-append-add}
-use Rattle.std.specs.Io.KnownBytes.{Appends}
+use Rattle.std.proofs.{lemmas.List.{take_at, take-append-drop}, lemmas.List.Concat.{flat_map-append}, Math.Seq.{take-append-add}, KnownBytes.{Appends-trans}}
 use Rattle.mc_tree.specs.Tree.{last_key, After}
 use Rattle.mc_explore.specs.Pages.{Listing, IsLawful, TakesPage, ShownIsOut, ShownBegan, FindsBefore, page_at, page_text, last_line, row_line}
 use Rattle.mc_explore.proofs.PageRows.{AreSoFar, cursor_is, next_of, none_so_far, one_more, page_short, page_full, page_with, some_shown}
 use Rattle.mc_output.specs.Text.{AppendsPrefix}
-use Rattle.std.proofs.KnownBytes.{Appends-trans}
 
 -- ---- texts that are out
 

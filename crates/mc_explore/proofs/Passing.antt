@@ -1,20 +1,13 @@
 -- A walk that passes the nodes below a node, child by child.
 use Rattle.std.proofs.Common.{Bool, IfSome, List, None, Option, Some, [], ap, append-nil, append_assoc, arith, false, subst, suc, sym, true, zero, ℕ, ◌++◌, ◌+◌, ◌∙◌, ◌∷◌, ◌≡◌, ◌≤◌}
-use Rattle.mc_boot.specs.Outcome.{Report}
-use Rattle.mc_boot.specs.declared.shared_tail.SharedTail.{SharedTail}
-use Rattle.mc_explore.proofs.Counting.{Census}
-use Rattle.mc_explore.specs.Right.{judged}
-use Rattle.mc_explore.specs.declared.expectation.Expectation.{Expectation}
 use Rattle.std.proofs.lemmas.List.{same_from_push}
-use Rattle.mc_explore.specs.facts.Children.{HasCome, child_here, IsAtChild, here_too}
-use Rattle.mc_explore.specs.inner.Table.{HasWeights, IsTailOf, PassesBelow, ReachesChild, own_totals, paths_of, weigh}
-use Rattle.mc_explore.specs.inner.Totals.{cut_off, report_totals}
+use Rattle.mc_boot.specs.{Outcome.{Report}, declared.shared_tail.SharedTail.{SharedTail}}
+use Rattle.mc_explore.proofs.Counting.{Census}
+use Rattle.mc_explore.specs.{Right.{judged}, declared.expectation.Expectation.{Expectation}, facts.Children.{HasCome, child_here, IsAtChild, here_too}}
+use Rattle.mc_explore.specs.{inner.Table.{HasWeights, IsTailOf, PassesBelow, ReachesChild, own_totals, paths_of, weigh}, inner.Totals.{cut_off, report_totals}}
 use Rattle.mc_flash.specs.Flash.{Content}
-use Rattle.mc_tree.specs.Tree.{Allowed, landed}
-use Rattle.mc_tree.specs.facts.Order.{HasPassed, next_child, passed_all, some_child}
-use Rattle.mc_tree.specs.inner.Weights.{path_tree}
-use Rattle.mc_walk.specs.TreeModel.{IsChildOf, TreeModel}
-use Rattle.mc_walk.specs.Walks.{Climbs, IsLastStep, IsSame, IsThere, Walked, origin_of, root_of}
+use Rattle.mc_tree.specs.{Tree.{Allowed, landed}, facts.Order.{HasPassed, next_child, passed_all, some_child}, inner.Weights.{path_tree}}
+use Rattle.mc_walk.specs.{TreeModel.{IsChildOf, TreeModel}, Walks.{Climbs, IsLastStep, IsSame, IsThere, Walked, origin_of, root_of}}
 use Rattle.mc_walk.specs.declared.frame.Frame.{Frame}
 
 module _ {N A T B : Type 0} (k : TreeModel N A T) where

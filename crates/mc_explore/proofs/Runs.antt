@@ -1,22 +1,13 @@
 -- Runs of children that have the same totals: where each begins, how they are added to, and what they come to.
 use Rattle.std.proofs.Common.{List, None, Option, Some, [], ap, arith, false, inl, inr, leb, length, length-append, min, option_map, refl, replicate, subst, suc, sym, take, true, zero, ℕ, ◌*◌, ◌++◌, ◌+◌, ◌-◌, ◌<◌, ◌^◌, ◌∙◌, ◌∷◌, ◌≡◌, ◌≤◌, ◌⊎◌}
-use Rattle.std.proofs.lemmas.Bool.{cases_lt, leb-true, leb-false}
-use Rattle.std.proofs.lemmas.List.Sorted.{IsPartitionedBy-leb}
-use Rattle.std.specs.List.Sorted.{IsNonDecreasingBy, IsPartitionedBy, IsPartitionPoint}
-use Rattle.std.specs.List.{slice_get, slice_index_or}
-use Rattle.std.specs.Option.{option_or}
-use Rattle.mc_boot.specs.Outcome.{shown}
-use Rattle.mc_boot.specs.SharedTail.{index_in_parent}
-use Rattle.mc_boot.specs.declared.outcome.Outcome.{Outcome}
-use Rattle.mc_boot.specs.declared.shared_tail.SharedTail.{SharedTail}
+use Rattle.std.proofs.{lemmas.Bool.{cases_lt, leb-true, leb-false}, lemmas.List.Sorted.{IsPartitionedBy-leb}}
+use Rattle.std.specs.{List.Sorted.{IsNonDecreasingBy, IsPartitionedBy, IsPartitionPoint}, List.{slice_get, slice_index_or}, Option.{option_or}}
+use Rattle.mc_boot.specs.{Outcome.{shown}, SharedTail.{index_in_parent}, declared.outcome.Outcome.{Outcome}, declared.shared_tail.SharedTail.{SharedTail}}
 use Rattle.mc_explore.proofs.Counting.{Census, each_more, same_numbers}
-use Rattle.mc_explore.specs.Census.{cut_number}
-use Rattle.mc_explore.specs.declared.table.Run.{Run}
-use Rattle.mc_explore.specs.facts.Totals.{same_totals as all_same, totals_weigh}
+use Rattle.mc_explore.specs.{Census.{cut_number}, declared.table.Run.{Run}, facts.Totals.{same_totals as all_same, totals_weigh}}
 use Rattle.mc_explore.specs.inner.Table.{AreAlike, AreCutOff, AreRuns, AreSums, Begins, IsChild, IsJoined, IsLevel, IsSplit, begin_of, rest_from}
 use Rattle.mc_explore.specs.inner.Totals.{Totals, merged, cut_off, no_totals, report_totals, totals}
-use Rattle.mc_tree.specs.facts.Weighed.{from_alike, from_parts}
-use Rattle.mc_tree.specs.inner.Weights.{from, shared_below}
+use Rattle.mc_tree.specs.{facts.Weighed.{from_alike, from_parts}, inner.Weights.{from, shared_below}}
 
 -- Where runs begin.
 

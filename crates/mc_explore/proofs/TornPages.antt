@@ -1,34 +1,20 @@
 -- The whole row lines of a page of which only a beginning is there.
 use Rattle.std.specs.Prelude.{◌≡◌, ◌⊎◌, ℕ, suc, ◌+◌, ◌-◌, ◌<◌, ◌≤◌, ◌^◌, List, [], ◌∷◌, ◌++◌, length, take, map, flat_map, codes, decimal, All, Contains, Option, Some, None, Result, Ok, Err, IfNone, refl}
-use Rattle.std.specs.Result.{result_ok}
-use Rattle.std.specs.Str.Iter.{LacksByte}
-use Rattle.std.proofs.Common.{inl, inr, arith, sym, ap, subst, ◌∙◌, append_assoc, append-nil, length-append}
-use Rattle.std.proofs.lemmas.Bool.{cases_lt}
+use Rattle.std.specs.{Result.{result_ok}, Str.Iter.{LacksByte}}
+use Rattle.std.proofs.{Common.{inl, inr, arith, sym, ap, subst, ◌∙◌, append_assoc, append-nil, length-append}, lemmas.Bool.{cases_lt}}
 use Rattle.std.proofs.lemmas.List.{length-take, take-append-le}
 use Rattle.std.proofs.lemmas.List.Elements.{All-nil, All-cons, All-head, All-tail, All-same, Contains-append_left, Contains-append_right}
-use Rattle.std.proofs.Math.Seq.{take-append-add}
-use Rattle.std.proofs.lemmas.Fmt.{decimal_injective}
-use Rattle.mc_flash.specs.Geometry.{IsLayout}
-use Rattle.mc_flash.specs.facts.Usage.{few_operations}
-use Rattle.mc_tree.specs.Tree.{Allowed}
-use Rattle.mc_tree.specs.facts.Lists.{at_head, in_rest}
-use Rattle.mc_boot.specs.Outcome.{ops_of}
-use Rattle.mc_explore.specs.inner.OneRound.{at_cut, boots}
-use Rattle.mc_start.specs.Cursor.{cursor_text}
-use Rattle.mc_explore.specs.Page.{row_line, last_line}
-use Rattle.mc_explore.specs.Rows.{IsRest, row_text, State, ShownRow, moved_to, schedules}
-use Rattle.mc_start.specs.Start.{IsSchedule, schedule_text}
-use Rattle.mc_explore.specs.Survey.{AreLines, IsRowLine, AreRowLines, HasRows, IsOfLast, IsLastRow, Continues}
-use Rattle.mc_start.specs.declared.cursor.Cursor.{Cursor}
-use Rattle.mc_explore.proofs.Bytes.{IsBetween, NoFeed, literal, and, feedless_prefix, schedule_between, lacks_feed, lacks_literal, row_feedless, cursor_feedless, no_space}
-use Rattle.mc_boot.specs.facts.Bounds.{few_ops}
-use Rattle.mc_explore.specs.facts.Listed.{schedules_are_lawful}
-use Rattle.mc_explore.specs.facts.Listings.{rest_tail}
-use Rattle.mc_explore.specs.facts.Occurring.{path_of}
-use Rattle.mc_output.specs.facts.Parting.{Lacks, lacks_each, one_part, no_part, lacks_decimal}
-use Rattle.mc_output.specs.facts.Reading.{dash}
+use Rattle.std.proofs.{Math.Seq.{take-append-add}, lemmas.Fmt.{decimal_injective}}
+use Rattle.mc_flash.specs.{Geometry.{IsLayout}, facts.Usage.{few_operations}}
+use Rattle.mc_tree.specs.{Tree.{Allowed}, facts.Lists.{at_head, in_rest}}
+use Rattle.mc_boot.specs.{Outcome.{ops_of}, facts.Bounds.{few_ops}, Plan.{PowerOn, again}}
+use Rattle.mc_explore.specs.{inner.OneRound.{at_cut, boots}, Page.{row_line, last_line}, Rows.{IsRest, row_text, State, ShownRow, moved_to, schedules}}
+use Rattle.mc_explore.specs.{Survey.{AreLines, IsRowLine, AreRowLines, HasRows, IsOfLast, IsLastRow, Continues}, facts.Listed.{schedules_are_lawful}}
+use Rattle.mc_explore.specs.{facts.Listings.{rest_tail}, facts.Occurring.{path_of}}
+use Rattle.mc_start.specs.{Cursor.{cursor_text}, Start.{IsSchedule, schedule_text}, declared.cursor.Cursor.{Cursor}}
 use Rattle.mc_start.specs.facts.Reading.{point_no_digit, points, spelling}
-use Rattle.mc_boot.specs.Plan.{PowerOn, again}
+use Rattle.mc_explore.proofs.Bytes.{IsBetween, NoFeed, literal, and, feedless_prefix, schedule_between, lacks_feed, lacks_literal, row_feedless, cursor_feedless, no_space}
+use Rattle.mc_output.specs.{facts.Parting.{Lacks, lacks_each, one_part, no_part, lacks_decimal}, facts.Reading.{dash}}
 
 lacks : (byte : ℕ) (xs : List ℕ) → LacksByte byte xs → Lacks byte xs
 lacks byte xs none = lacks_each byte xs none

@@ -4,9 +4,7 @@ use Rattle.std.proofs.Common.{arith, sym, subst, None, Option, Some}
 use Rattle.mc_tree.specs.Tree as tree
 use Rattle.mc_tree.specs.Tree.{After, IsNextIn, IsOverIn, IsPastIn, Position}
 use Rattle.mc_flash.specs.Flash.{Content}
-use Rattle.mc_walk.specs.TreeModel.{TreeModel}
-use Rattle.mc_walk.specs.Walks.{position_of, Walked, IsSame, origin_of}
-use Rattle.mc_walk.specs.declared.tour.Phase.{Phase}
+use Rattle.mc_walk.specs.{TreeModel.{TreeModel}, Walks.{position_of, Walked, IsSame, origin_of}, declared.tour.Phase.{Phase}}
 use Rattle.mc_walk.specs.declared.tour.Phase.TheVariants as phases
 use Rattle.mc_boot.specs.Plan.{PowerOn}
 use Rattle.mc_explore.specs.inner.Exploring.{AreKeys, FindsRow, IsBeyond, IsSound, Rowed, begun_of, state_of}

@@ -1,32 +1,16 @@
 -- A flash that was just loaded, and a walk from there along a schedule.
-use Rattle.std.proofs.Common.{ap, arith, subst, sym, ◌∙◌}
-use Rattle.std.proofs.Math.Nat.{mul-le-mul_right}
-use Rattle.std.proofs.lemmas.List.{length-take-le}
+use Rattle.std.proofs.{Common.{ap, arith, subst, sym, ◌∙◌}, Math.Nat.{mul-le-mul_right}, lemmas.List.{length-take-le}}
 use Rattle.std.specs.Prelude.{Bool, List, None, Option, Some, [], false, is_some, length, refl, suc, take, true, ℕ, ◌*◌, ◌++◌, ◌+◌, ◌∷◌, ◌≡◌, ◌≤◌}
-use Rattle.mc_boot.specs.Boot.{Progress, left_of, progress}
-use Rattle.mc_boot.specs.Outcome.{after, shown}
-use Rattle.mc_boot.specs.Plan.{PowerOn, again}
-use Rattle.mc_boot.specs.facts.Bounds.{few_ops}
-use Rattle.mc_boot.specs.facts.Run.{come_left}
+use Rattle.mc_boot.specs.{Boot.{Progress, left_of, progress}, Outcome.{after, shown}, Plan.{PowerOn, again}, facts.Bounds.{few_ops}, facts.Run.{come_left}}
 use Rattle.mc_explore.proofs.Onwards.{ComesOn}
-use Rattle.mc_explore.specs.Rows.{subject}
-use Rattle.mc_explore.specs.Schedules.{CanOccur, CannotOccurAt, IsReplayed}
-use Rattle.mc_explore.specs.declared.one_round.OneRound.{OneRound}
-use Rattle.mc_explore.specs.declared.one_round.Summary.{Summary}
-use Rattle.mc_explore.specs.facts.Occurring.{allowed_after, occurs_allowed, path_of}
-use Rattle.mc_explore.specs.inner.Exploring.{FollowsKey}
-use Rattle.mc_explore.specs.inner.OneRound.{IsSummary, at_cut, begins, begun_of, boots, one_round}
-use Rattle.mc_explore.specs.inner.View.{Followed, IsLoaded, begun_with}
-use Rattle.mc_flash.specs.Flash.{Content}
-use Rattle.mc_flash.specs.Geometry.{Geometry, IsLayout}
-use Rattle.mc_flash.specs.Usage.{Allows, Limits, Loads, Seen, Spent, Usage, most_operations, most_saved}
-use Rattle.mc_start.specs.Start.{Started, begun}
-use Rattle.mc_start.specs.facts.Room.{limits_are}
+use Rattle.mc_explore.specs.{Rows.{subject}, Schedules.{CanOccur, CannotOccurAt, IsReplayed}, declared.one_round.OneRound.{OneRound}}
+use Rattle.mc_explore.specs.{declared.one_round.Summary.{Summary}, facts.Occurring.{allowed_after, occurs_allowed, path_of}, inner.Exploring.{FollowsKey}}
+use Rattle.mc_explore.specs.{inner.OneRound.{IsSummary, at_cut, begins, begun_of, boots, one_round}, inner.View.{Followed, IsLoaded, begun_with}}
+use Rattle.mc_flash.specs.{Flash.{Content}, Geometry.{Geometry, IsLayout}, Usage.{Allows, Limits, Loads, Seen, Spent, Usage, most_operations, most_saved}}
+use Rattle.mc_start.specs.{Start.{Started, begun}, facts.Room.{limits_are}}
 use Rattle.mc_trailer.specs.declared.tables.Rules.{Rules}
-use Rattle.mc_tree.specs.Tree.{Allowed, landed}
-use Rattle.mc_tree.specs.facts.Order.{allowed_prefix}
-use Rattle.mc_walk.specs.TreeModel.{summary_cost}
-use Rattle.mc_walk.specs.Walks.{Begins, Follows, IsClear, IsSame, IsThere, Walked, origin_of, path_cost}
+use Rattle.mc_tree.specs.{Tree.{Allowed, landed}, facts.Order.{allowed_prefix}}
+use Rattle.mc_walk.specs.{TreeModel.{summary_cost}, Walks.{Begins, Follows, IsClear, IsSame, IsThere, Walked, origin_of, path_cost}}
 use Rattle.mc_tree.specs.Tree as tree
 
 -- A flash that was just loaded.

@@ -1,11 +1,8 @@
 -- What all rows of a start come to, in the numbers that are printed.
 use Rattle.std.specs.List.{find}
 use Rattle.std.specs.Prelude.{List, None, Option, Some, codes, decimal, if◌then◌else◌, length, min, not, option_map, ℕ, ◌++◌, ◌-◌, ◌==◌, ◌^◌, ◌≡◌}
-use Rattle.mc_boot.specs.Outcome.{Report}
-use Rattle.mc_boot.specs.Plan.{PowerOn}
-use Rattle.mc_explore.specs.Pages.{IsRest}
-use Rattle.mc_explore.specs.Subject.{Subject, at_start, rows_of}
-use Rattle.mc_explore.specs.Survey.{ending_with, is_boot, is_fault, is_none, is_panic, most_ops}
+use Rattle.mc_boot.specs.{Outcome.{Report}, Plan.{PowerOn}}
+use Rattle.mc_explore.specs.{Pages.{IsRest}, Subject.{Subject, at_start, rows_of}, Survey.{ending_with, is_boot, is_fault, is_none, is_panic, most_ops}}
 use Rattle.mc_explore.specs.declared.census.CensusOf.{CensusOf}
 
 -- A number, or the largest 128-bit number where it is larger.

@@ -2,8 +2,7 @@
 use Rattle.std.specs.Io.KnownBytes.{Appends}
 use Rattle.std.specs.Prelude.{All, List, None, Option, Some, [], codes, drop, flat_map, if◌then◌else◌, length, nat_le, suc, take, zero, ℕ, ◌++◌, ◌∷◌, ◌≡◌, ◌⊎◌}
 use Rattle.mc_output.specs.Text.{AppendsPrefix}
-use Rattle.mc_tree.specs.Tree.{After, IsPastIn, Position, last_key}
-use Rattle.mc_tree.specs.facts.Order.{IsOrder}
+use Rattle.mc_tree.specs.{Tree.{After, IsPastIn, Position, last_key}, facts.Order.{IsOrder}}
 use Rattle.mc_tree.specs.Tree as lists
 
 pub record Listing (S K R C : Type 0) : Type 1 where

@@ -1,22 +1,13 @@
 -- What the slots are to hold at the end, which outcomes are right then, and how many rows have them.
-use Rattle.std.specs.List.{find}
-use Rattle.std.specs.Option.{option_or}
+use Rattle.std.specs.{List.{find}, Option.{option_or}}
 use Rattle.std.specs.Prelude.{All, Bool, List, None, Option, Some, codes, count_by, false, if◌then◌else◌, length, not, option_map, true, ℕ, ◌&&◌, ◌++◌, ◌+◌, ◌==◌, ◌≡◌}
 use Rattle.std.specs.Str.{bytes_eq}
 use Rattle.hex.specs.Hex.{IsBytes, encode_lower}
-use Rattle.mc_boot.specs.Outcome.{Report}
-use Rattle.mc_boot.specs.Plan.{PowerOn}
-use Rattle.mc_explore.specs.Census.{count_text, cut_number, key_or_none}
-use Rattle.mc_explore.specs.Rows.{State, subject}
-use Rattle.mc_explore.specs.Subject.{Subject, rows_of}
-use Rattle.mc_explore.specs.Survey.{Tally, is_boot, tally_by}
-use Rattle.mc_explore.specs.declared.expectation.Expectation.{Expectation}
-use Rattle.mc_explore.specs.declared.expectation.Wanted.{Wanted}
-use Rattle.mc_explore.specs.declared.rights.RightsOf.{RightsOf}
+use Rattle.mc_boot.specs.{Outcome.{Report}, Plan.{PowerOn}}
+use Rattle.mc_explore.specs.{Census.{count_text, cut_number, key_or_none}, Rows.{State, subject}, Subject.{Subject, rows_of}, Survey.{Tally, is_boot, tally_by}}
+use Rattle.mc_explore.specs.{declared.expectation.Expectation.{Expectation}, declared.expectation.Wanted.{Wanted}, declared.rights.RightsOf.{RightsOf}}
 use Rattle.mc_explore.specs.declared.tally.TallyOf.{TallyOf}
-use Rattle.mc_image.specs.Valid.{Identity}
-use Rattle.mc_image.specs.VersionText.{Names}
-use Rattle.mc_image.specs.declared.version.Version.{Version}
+use Rattle.mc_image.specs.{Valid.{Identity}, VersionText.{Names}, declared.version.Version.{Version}}
 use Rattle.mc_boot.specs.declared.outcome.BootResult.TheVariants as results
 use Rattle.mc_explore.specs.declared.expectation.Wanted.TheVariants as wanted
 use Rattle.mc_explore.specs.Pages as pages

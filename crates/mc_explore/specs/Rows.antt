@@ -1,25 +1,13 @@
 -- Schedules as what is explored: the states of their explorer, their rows with their text, what the restart theorem says of a row, and what a row costs.
 use Rattle.std.specs.Prelude.{List, None, Option, Result, Some, [], codes, decimal, false, option_and_then, option_map, ℕ, ◌*◌, ◌++◌, ◌+◌, ◌≡◌, ◌≤◌}
-use Rattle.mc_boot.specs.Outcome.{Report, after, outcome_of, result_text, shown}
-use Rattle.mc_boot.specs.Plan.{PowerOn, again}
-use Rattle.mc_boot.specs.Restart.{BeginsImage, EndsIn, forgets_reverts, start_flash}
-use Rattle.mc_boot.specs.declared.kind.Kind.{Kind}
-use Rattle.mc_explore.specs.Pages.{Listing}
-use Rattle.mc_explore.specs.Schedules.{IsMember, IsSwapOutcome}
-use Rattle.mc_explore.specs.Subject.{Subject}
-use Rattle.mc_explore.specs.declared.error.ExploreError.{ExploreError}
-use Rattle.mc_explore.specs.declared.row.Row.{Row}
-use Rattle.mc_explore.specs.declared.subject.Fields.{Fields}
-use Rattle.mc_flash.specs.Flash.{Content}
-use Rattle.mc_flash.specs.Geometry.{Geometry, IsLayout}
-use Rattle.mc_flash.specs.Usage.{most_operations}
-use Rattle.mc_image.specs.Valid.{Identity}
-use Rattle.mc_image.specs.VersionText.{version_line}
-use Rattle.mc_start.specs.Cursor.{cursor_of, cursor_text}
-use Rattle.mc_start.specs.Start.{schedule_text}
-use Rattle.mc_start.specs.declared.cursor.Cursor.{Cursor}
-use Rattle.mc_trailer.specs.Tables.{type_text}
-use Rattle.mc_trailer.specs.declared.tables.Rules.{Rules}
+use Rattle.mc_boot.specs.{Outcome.{Report, after, outcome_of, result_text, shown}, Plan.{PowerOn, again}}
+use Rattle.mc_boot.specs.{Restart.{BeginsImage, EndsIn, forgets_reverts, start_flash}, declared.kind.Kind.{Kind}}
+use Rattle.mc_explore.specs.{Pages.{Listing}, Schedules.{IsMember, IsSwapOutcome}, Subject.{Subject}, declared.error.ExploreError.{ExploreError}}
+use Rattle.mc_explore.specs.{declared.row.Row.{Row}, declared.subject.Fields.{Fields}}
+use Rattle.mc_flash.specs.{Flash.{Content}, Geometry.{Geometry, IsLayout}, Usage.{most_operations}}
+use Rattle.mc_image.specs.{Valid.{Identity}, VersionText.{version_line}}
+use Rattle.mc_start.specs.{Cursor.{cursor_of, cursor_text}, Start.{schedule_text}, declared.cursor.Cursor.{Cursor}}
+use Rattle.mc_trailer.specs.{Tables.{type_text}, declared.tables.Rules.{Rules}}
 use Rattle.mc_tree.specs.Tree.{Precedes}
 use Rattle.mc_explore.specs.Pages as listings
 use Rattle.mc_boot.specs.declared.kind.Kind.TheVariants as starts

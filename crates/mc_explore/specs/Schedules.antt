@@ -1,14 +1,10 @@
 -- Schedules of power cuts: which can occur, and what they come to (docs/MODEL.md, "Schedules of power cuts").
 use Rattle.std.specs.Prelude.{List, None, Some, [], false, is_some, length, take, true, ℕ, ⊤, ◌+◌, ◌<◌, ◌≡◌, ◌≤◌}
-use Rattle.mc_boot.specs.Boot.{HasCome, Progress}
-use Rattle.mc_boot.specs.Outcome.{Report, after, left_by, outcome_of, shown}
-use Rattle.mc_boot.specs.Plan.{PowerOn, again, power_on}
-use Rattle.mc_boot.specs.Restart.{BeginsImage, EndsIn, forgets_reverts, named, other, start_flash}
-use Rattle.mc_boot.specs.declared.kind.Kind.{Kind}
+use Rattle.mc_boot.specs.{Boot.{HasCome, Progress}, Outcome.{Report, after, left_by, outcome_of, shown}, Plan.{PowerOn, again, power_on}}
+use Rattle.mc_boot.specs.{Restart.{BeginsImage, EndsIn, forgets_reverts, named, other, start_flash}, declared.kind.Kind.{Kind}}
 use Rattle.mc_boot.specs.declared.outcome.Outcome.{Outcome}
 use Rattle.mc_explore.specs.declared.replays.ReplayError.{ReplayError}
-use Rattle.mc_flash.specs.Flash.{Content}
-use Rattle.mc_flash.specs.Usage.{Seen}
+use Rattle.mc_flash.specs.{Flash.{Content}, Usage.{Seen}}
 use Rattle.mc_image.specs.Valid.{id_of}
 use Rattle.mc_trailer.specs.declared.tables.Rules.{Rules}
 use Rattle.mc_explore.specs.declared.replays.ReplayError.TheVariants as errors

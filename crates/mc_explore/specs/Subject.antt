@@ -1,18 +1,12 @@
 -- What is explored, of whatever kind: which keys can occur from a start, where an explorer has come to, its rows, and where a cursor serves.
 use Rattle.std.specs.Prelude.{Bool, Err, List, None, Ok, Option, Result, Some, false, refl, ℕ, ◌≡◌, ◌≢◌, ◌⊎◌}
-use Rattle.mc_boot.specs.Outcome.{Report}
-use Rattle.mc_boot.specs.Plan.{PowerOn}
-use Rattle.mc_explore.specs.Explores.{ExploresOn}
-use Rattle.mc_explore.specs.Pages.{IsLawful, IsRest, Listing}
-use Rattle.mc_explore.specs.declared.error.ExploreError.{ExploreError}
+use Rattle.mc_boot.specs.{Outcome.{Report}, Plan.{PowerOn}}
+use Rattle.mc_explore.specs.{Explores.{ExploresOn}, Pages.{IsLawful, IsRest, Listing}, declared.error.ExploreError.{ExploreError}}
 use Rattle.mc_explore.specs.declared.subject.Fields.{Fields}
-use Rattle.mc_flash.specs.Flash.{Content}
-use Rattle.mc_flash.specs.Geometry.{Geometry}
-use Rattle.mc_flash.specs.Usage.{Usage}
+use Rattle.mc_flash.specs.{Flash.{Content}, Geometry.{Geometry}, Usage.{Usage}}
 use Rattle.mc_start.specs.Start.{start_digest}
 use Rattle.mc_trailer.specs.declared.tables.Rules.{Rules}
-use Rattle.mc_tree.specs.Tree.{After, AtStart, Lost, Position}
-use Rattle.mc_tree.specs.facts.Order.{IsOrder}
+use Rattle.mc_tree.specs.{Tree.{After, AtStart, Lost, Position}, facts.Order.{IsOrder}}
 use Rattle.mc_explore.specs.declared.error.ExploreError.TheVariants as errors
 use Rattle.mc_tree.specs.Tree as paths
 

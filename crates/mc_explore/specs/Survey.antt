@@ -1,14 +1,10 @@
 -- What is counted of the rows of a page in place of their text.
 use Rattle.std.specs.Prelude.{All, Bool, List, None, Option, Some, [], codes, count_by, decimal, drop, false, fold, length, map, max, true, ℕ, ◌++◌, ◌+◌, ◌<◌, ◌∷◌, ◌≡◌, ◌≤◌, ◌⊎◌}
 use Rattle.std.specs.Str.Iter.{LacksByte}
-use Rattle.mc_boot.specs.Outcome.{Report}
-use Rattle.mc_boot.specs.declared.outcome.BootResult.{BootResult}
-use Rattle.mc_explore.specs.Page.{Page, TakesPage, page_at, row_line, state_past}
-use Rattle.mc_explore.specs.Rows.{IsRest, State, ShownRow, moved_to, report_of, row_text}
-use Rattle.mc_explore.specs.Subject.{Subject, rows_of}
-use Rattle.mc_explore.specs.declared.tally.TallyOf.{TallyOf}
-use Rattle.mc_start.specs.Start.{IsSchedule, schedule_text}
-use Rattle.mc_start.specs.declared.cursor.Cursor.{Cursor}
+use Rattle.mc_boot.specs.{Outcome.{Report}, declared.outcome.BootResult.{BootResult}}
+use Rattle.mc_explore.specs.{Page.{Page, TakesPage, page_at, row_line, state_past}, Rows.{IsRest, State, ShownRow, moved_to, report_of, row_text}}
+use Rattle.mc_explore.specs.{Subject.{Subject, rows_of}, declared.tally.TallyOf.{TallyOf}}
+use Rattle.mc_start.specs.{Start.{IsSchedule, schedule_text}, declared.cursor.Cursor.{Cursor}}
 use Rattle.mc_explore.specs.Pages as pages
 use Rattle.mc_boot.specs.declared.outcome.BootResult.TheVariants as results
 

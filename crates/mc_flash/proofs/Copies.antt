@@ -1,16 +1,12 @@
 -- What calls of a flash of copies do.
 use Rattle.std.proofs.Common.{◌≡◌, ℕ, ◌≤◌, Bool, true, false, List, [], ◌∷◌, ◌++◌, length, map, take, get_or, refl, sym, ap, ◌∙◌, inr, arith}
-use Rattle.std.specs.Prelude.{Option, Some, None, Result, Ok, Err, zero, suc, ◌<◌}
 use Rattle.std.proofs.lemmas.List.{map-append, length-map, take-map}
-use Rattle.mc_flash.specs.Flash.{Becomes, apply, Content}
-use Rattle.mc_flash.specs.Geometry.{Geometry}
-use Rattle.mc_flash.specs.Usage.{Counts, Checkpoint, Seen, Does, GivesUp, Loads, Marks, no_checkpoint, went_back}
-use Rattle.mc_flash.specs.inner.Snap.{ample, copies_seen, copy_seen}
-use Rattle.mc_flash.specs.facts.Done.{done_as, done_not}
-use Rattle.mc_flash.specs.declared.flash.FlashError.{FlashError}
+use Rattle.std.specs.Prelude.{Option, Some, None, Result, Ok, Err, zero, suc, ◌<◌}
+use Rattle.mc_flash.specs.{Flash.{Becomes, apply, Content}, Geometry.{Geometry}}
+use Rattle.mc_flash.specs.{Usage.{Counts, Checkpoint, Seen, Does, GivesUp, Loads, Marks, no_checkpoint, went_back}, inner.Snap.{ample, copies_seen, copy_seen}}
+use Rattle.mc_flash.specs.{facts.Done.{done_as, done_not}, declared.flash.FlashError.{FlashError}}
 use Rattle.mc_flash.specs.declared.flash.FlashError.TheVariants as errors
-use Rattle.mc_flash.specs.declared.flash.Grain.{Grain}
-use Rattle.mc_flash.specs.declared.op.Op.{Op}
+use Rattle.mc_flash.specs.{declared.flash.Grain.{Grain}, declared.op.Op.{Op}}
 use Rattle.mc_flash.proofs.Limits.{ample_allows}
 
 counts_nothing : (g : Geometry) → (ample g).counted ≡ true → ⊥

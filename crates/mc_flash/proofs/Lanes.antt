@@ -1,16 +1,9 @@
 -- A test of all lanes of a vector, of the bytes of a word, and of a list in groups of one length.
 use Rattle.std.proofs.Common.{Bool, List, [], ap, arith, cond, drop, eqb, false, get_or, inl, inr, length, map, refl, suc, sym, take, true, zero, ℕ, ◌&&◌, ◌*◌, ◌+◌, ◌/◌, ◌<◌, ◌^◌, ◌∙◌, ◌∷◌, ◌≡◌, ◌≤◌}
-use Rattle.std.proofs.Math.Bool.{and_assoc}
-use Rattle.std.proofs.Math.Nat.{two-pow-succ}
-use Rattle.std.proofs.lemmas.Bool.{and_cases, and_parts, cases_Bool, eq-eqb, eqb-true, ne_eqb, true≢false}
-use Rattle.std.proofs.lemmas.List.{drop-drop, length-map, take-append-drop}
-use Rattle.std.proofs.lemmas.List.Folds.{list_all-append}
-use Rattle.std.proofs.lemmas.Nat.{le_bytes_8}
+use Rattle.std.proofs.{Math.Bool.{and_assoc}, Math.Nat.{two-pow-succ}, lemmas.Bool.{and_cases, and_parts, cases_Bool, eq-eqb, eqb-true, ne_eqb, true≢false}}
+use Rattle.std.proofs.{lemmas.List.{drop-drop, length-map, take-append-drop}, lemmas.List.Folds.{list_all-append}, lemmas.Nat.{le_bytes_8}}
 use Rattle.std.proofs.lemmas.Simd.{mask_l-lt}
-use Rattle.std.specs.Int.{from_le_bytes, to_le_bytes, w64}
-use Rattle.std.specs.List.{list_all}
-use Rattle.std.specs.Prelude.{replicate}
-use Rattle.std.specs.Simd.{first_chunks}
+use Rattle.std.specs.{Int.{from_le_bytes, to_le_bytes, w64}, List.{list_all}, Prelude.{replicate}, Simd.{first_chunks}}
 use lib.Lanes.{mask_l}
 
 -- A word of bytes that are all 0xff.

@@ -1,12 +1,8 @@
 -- Counts over whole numbers, and limits that are never met.
-use Rattle.std.proofs.Common.{arith, false, min, pos, true, ℕ, ℤ, ◌*◌, ◌+◌, ◌-◌, ◌<◌, ◌≡◌, ◌≤◌}
-use Rattle.std.proofs.Math.Nat.{mul-le-mul_right}
-use Rattle.std.proofs.lemmas.Bool.Decides.{nat_tests}
+use Rattle.std.proofs.{Common.{arith, false, min, pos, true, ℕ, ℤ, ◌*◌, ◌+◌, ◌-◌, ◌<◌, ◌≡◌, ◌≤◌}, Math.Nat.{mul-le-mul_right}, lemmas.Bool.Decides.{nat_tests}}
 use Rattle.std.proofs.lemmas.Int.{clamps, ints}
 use Rattle.std.specs.Prelude.{int_lt, suc, zero, ◌<ℤ◌, ◌==◌}
-use Rattle.mc_flash.specs.Geometry.{Geometry, count_beside}
-use Rattle.mc_flash.specs.Usage.{IsWithin, limits_for, most_operations, most_saved}
-use Rattle.mc_flash.specs.declared.flash.Grain.{Grain}
+use Rattle.mc_flash.specs.{Geometry.{Geometry, count_beside}, Usage.{IsWithin, limits_for, most_operations, most_saved}, declared.flash.Grain.{Grain}}
 use Rattle.mc_flash.specs.inner.Snap.{ample}
 use Rattle.mc_flash.specs.declared.flash.Grain.TheVariants as grains
 

@@ -1,22 +1,14 @@
 -- A journal: taking one entry back, and what a new entry and an old one leave of the checkpoints.
 use Rattle.std.proofs.Common.{Bool, List, [], ap, arith, drop, false, get_or, inl, inr, length, length-append, map, refl, subst, sym, take, true, ℕ, ◌++◌, ◌+◌, ◌-◌, ◌<◌, ◌∙◌, ◌∷◌, ◌≡◌, ◌≤◌}
-use Rattle.std.proofs.Math.Seq.{drop-append-add, drop-append_seam, take-append_seam}
-use Rattle.std.proofs.lemmas.Bool.Decides.{nat_tests}
+use Rattle.std.proofs.{Math.Seq.{drop-append-add, drop-append_seam, take-append_seam}, lemmas.Bool.Decides.{nat_tests}}
 use Rattle.std.proofs.lemmas.List.{drop-append-le, drop_all, length-drop, length-map, length-take-le, map-append, take-append-drop, take-append-le, take-map, take_all}
-use Rattle.std.proofs.lemmas.List.Edits.{length-between, split_between}
-use Rattle.std.proofs.lemmas.Option.{slice_get-get_or, slice_get-map}
+use Rattle.std.proofs.{lemmas.List.Edits.{length-between, split_between}, lemmas.Option.{slice_get-get_or, slice_get-map}}
 use Rattle.std.specs.List.{AllByRecursion, between}
 use Rattle.std.specs.Prelude.{Err, IsSome, None, Ok, Some, if◌then◌else◌, min, option_map, replicate, slice_get, suc, zero, ◌&&◌, ◌==◌, ◌^◌}
-use Rattle.mc_flash.specs.Flash.{Content, apply, bytes_of, erased, in_slot, is_blank, put, with_bytes}
-use Rattle.mc_flash.specs.Geometry.{Geometry}
+use Rattle.mc_flash.specs.{Flash.{Content, apply, bytes_of, erased, in_slot, is_blank, put, with_bytes}, Geometry.{Geometry}}
 use Rattle.mc_flash.specs.Usage.{Checkpoint, Does, IsFull, IsWithin, Limits, Seen, Usage, marked, no_checkpoint, saves, went_back}
-use Rattle.mc_flash.specs.declared.entry.Entry.{Entry}
-use Rattle.mc_flash.specs.declared.entry.Entry.TheVariants.{Erased, Written}
-use Rattle.mc_flash.specs.declared.op.Op.{Op}
-use Rattle.mc_flash.specs.declared.op.Slot.{Slot}
-use Rattle.mc_flash.specs.declared.op.Slot.TheVariants.{Primary, Secondary}
-use Rattle.mc_flash.specs.declared.reserve.Reserve.{Reserve}
-use Rattle.mc_flash.specs.facts.Changes.{and_true}
+use Rattle.mc_flash.specs.{declared.entry.Entry.{Entry}, declared.entry.Entry.TheVariants.{Erased, Written}, declared.op.Op.{Op}, declared.op.Slot.{Slot}}
+use Rattle.mc_flash.specs.{declared.op.Slot.TheVariants.{Primary, Secondary}, declared.reserve.Reserve.{Reserve}, facts.Changes.{and_true}}
 use Rattle.mc_flash.specs.facts.Done.{done_as, done_not}
 use Rattle.mc_flash.specs.inner.Journal.{Ascend, Change, IsInside, IsJournal, IsSound, IsUndoneTo, Journal, all_saved, all_taken_back, changes, checkpoint_after, journal_with, limits_of, saved_by, seen_of, taken_back}
 use Rattle.mc_flash.specs.declared.flash.FlashError.TheVariants as errors

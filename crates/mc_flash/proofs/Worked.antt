@@ -3,9 +3,7 @@ use Rattle.std.proofs.Common.{◌≡◌, pos, negsuc, true, false, [], ◌∷◌
 use Rattle.std.specs.Prelude.{Some, None}
 use lib.Count.{ones}
 use Rattle.mc_flash.specs.Geometry.{Geometry, trailer_bytes, trailer_sectors, greatest_count, greatest_sectors, fits, refusal_of, of_numbers}
-use Rattle.mc_flash.specs.Flash.{Content, apply}
-use Rattle.mc_flash.specs.Usage.{most_operations, most_saved}
-use Rattle.mc_flash.specs.inner.Worked.{worked}
+use Rattle.mc_flash.specs.{Flash.{Content, apply}, Usage.{most_operations, most_saved}, inner.Worked.{worked}}
 use Rattle.mc_flash.specs.declared.layout.LayoutError.TheVariants as refusals
 use Rattle.mc_flash.specs.declared.flash.Grain.TheVariants as grains
 use Rattle.mc_flash.specs.declared.op.Op.TheVariants as ops

@@ -1,13 +1,8 @@
 -- The largest image that fits a layout. What follows is proved here, so that the crates above can cite it.
-use Rattle.std.specs.Prelude.{◌≡◌, ◌↔◌, ℕ, ◌+◌, ◌*◌, ◌^◌, ◌<◌, ◌≤◌, ℤ, pos, int_le, true}
-use Rattle.std.specs.Int.{div_ceil}
-use Rattle.std.proofs.Common.{arith, ap, ◌∙◌, inl, inr}
-use Rattle.std.proofs.lemmas.Bool.{cases_lt}
-use Rattle.std.proofs.lemmas.Bool.Decides.{nat_tests}
-use Rattle.std.proofs.lemmas.Grind.{div_ceil_times}
+use Rattle.std.specs.{Prelude.{◌≡◌, ◌↔◌, ℕ, ◌+◌, ◌*◌, ◌^◌, ◌<◌, ◌≤◌, ℤ, pos, int_le, true}, Int.{div_ceil}}
+use Rattle.std.proofs.{Common.{arith, ap, ◌∙◌, inl, inr}, lemmas.Bool.{cases_lt}, lemmas.Bool.Decides.{nat_tests}, lemmas.Grind.{div_ceil_times}}
 use Rattle.std.proofs.Math.Nat.{mul-le-mul_right}
-use Rattle.mc_flash.specs.facts.Layouts.{fits_few, greatest_is}
-use Rattle.mc_flash.specs.Geometry.{Geometry, IsLayout, fits, greatest_sectors}
+use Rattle.mc_flash.specs.{facts.Layouts.{fits_few, greatest_is}, Geometry.{Geometry, IsLayout, fits, greatest_sectors}}
 
 -- The bytes of the sectors that an image may have at most.
 abbrev pub largest_image : Geometry → ℕ

@@ -2,11 +2,8 @@
 -- which takes memory as it goes, the counts stand still and the limits are never met.
 use Rattle.std.specs.Int.{div_ceil}
 use Rattle.std.specs.Prelude.{Bool, Err, IsSome, List, None, Ok, Option, Result, Some, [], false, length, min, option_map, slice_index_or, take, true, ℕ, ◌*◌, ◌++◌, ◌+◌, ◌-◌, ◌/◌, ◌<◌, ◌^◌, ◌∷◌, ◌≡◌, ◌≤◌, ◌⊎◌}
-use Rattle.mc_flash.specs.Flash.{Content, apply}
-use Rattle.mc_flash.specs.Geometry.{Geometry, greatest_sectors, trailer_sectors}
-use Rattle.mc_flash.specs.declared.flash.FlashError.{FlashError}
-use Rattle.mc_flash.specs.declared.flash.Grain.{Grain}
-use Rattle.mc_flash.specs.declared.op.Op.{Op}
+use Rattle.mc_flash.specs.{Flash.{Content, apply}, Geometry.{Geometry, greatest_sectors, trailer_sectors}, declared.flash.FlashError.{FlashError}}
+use Rattle.mc_flash.specs.{declared.flash.Grain.{Grain}, declared.op.Op.{Op}}
 use Rattle.mc_flash.specs.declared.flash.FlashError.TheVariants as errors
 use Rattle.mc_flash.specs.declared.flash.Grain.TheVariants as grains
 use Rattle.mc_flash.specs.declared.op.Op.TheVariants as ops

@@ -2,8 +2,7 @@
 use Rattle.std.proofs.Common.{List, [], ap, append_assoc, arith, drop, length, length-append, min, suc, take, zero, ℕ, ◌++◌, ◌+◌, ◌-◌, ◌<◌, ◌^◌, ◌∙◌, ◌∷◌, ◌≡◌, ◌≤◌}
 use Rattle.std.proofs.lemmas.List.{drop-drop, drop_at, get_or-drop, get_or-take, get_or_past, length-drop, length-take, take-append-drop, take_all, take_at, take_min}
 use Rattle.std.proofs.lemmas.Nat.{le_bytes_2, le_bytes_4}
-use Rattle.byteorder.specs.Endian.{little_bytes, little_number}
-use Rattle.byteorder.specs.Numbers.{little_from-lt, little_from-take, little_number-reads_back}
+use Rattle.byteorder.specs.{Endian.{little_bytes, little_number}, Numbers.{little_from-lt, little_from-take, little_number-reads_back}}
 use Rattle.mc_image.specs.Image.{IsBytes, u16_at, u32_at}
 
 -- Numbers that are read are the numbers that are spelled, and the other way round.

@@ -3,28 +3,17 @@ use Rattle.std.proofs.Common.{Bool, Err, List, None, Ok, Some, [], ap, append_as
 use Rattle.std.proofs.lemmas.Bool.{cases_lt, le-ltb, lt-ltb}
 use Rattle.std.proofs.lemmas.List.{append-nil, append_cancel_right, drop-append-le, drop_at, get_or-append_right, get_or_append_left, length-drop, length-take, take-append-drop, take-append-le, take_all, take_at, take_min}
 use Rattle.std.specs.Prelude.{Result, is_none, nat_lt, not, ◌&&◌, ◌==◌}
-use Rattle.mc_image.proofs.ByteNumbers.{IsBytes-take, take_split}
-use Rattle.mc_image.proofs.ImageLaws.{cut_is, not_some, reading, size_is}
-use Rattle.mc_image.proofs.Views.{fault_read, from_parts}
-use Rattle.mc_image.proofs.Scans.{beyond_error, digest_good, late_fault, plain_entries, plain_short, u16_more, u32_more}
-use Rattle.mc_image.proofs.Written.{appended}
+use Rattle.mc_image.proofs.{ByteNumbers.{IsBytes-take, take_split}, ImageLaws.{cut_is, not_some, reading, size_is}, Views.{fault_read, from_parts}}
+use Rattle.mc_image.proofs.{Scans.{beyond_error, digest_good, late_fault, plain_entries, plain_short, u16_more, u32_more}, Written.{appended}}
 use Rattle.mc_image.specs.Image.{IsBytes, after_body, area_in, covered_text, digest_of, digests, entries_in, entries_of, header_end, header_in, image_in, image_text, payload_end, payload_in, protected_end, protected_in, protected_text, u16_at, version_in}
 use Rattle.mc_image.specs.Valid.{body_fault, digest_fault, fault_if, first_fault, header_fault, is_bad_area, plain_fault, protected_fault, ◌<+>◌}
-use Rattle.mc_image.specs.declared.areas.ProtectedArea.{ProtectedArea}
-use Rattle.mc_image.specs.declared.areas.EntryScan.{EntryScan}
-use Rattle.mc_image.specs.declared.error.ImageError.{ImageError}
+use Rattle.mc_image.specs.{declared.areas.ProtectedArea.{ProtectedArea}, declared.areas.EntryScan.{EntryScan}, declared.error.ImageError.{ImageError}}
 use Rattle.mc_image.specs.declared.error.ImageError.TheVariants.{BadProtected, BadTlvLength, BadTlvMagic, Truncated, TruncatedBody, WrongDigest}
-use Rattle.mc_image.specs.declared.gather.Gather.{Gather}
-use Rattle.mc_image.specs.declared.header.Header.{Header}
-use Rattle.mc_image.specs.declared.judge.Judge.{Judge}
-use Rattle.mc_image.specs.declared.judge.Judged.{Judged}
-use Rattle.mc_image.specs.declared.judge.Sealed.{Sealed}
-use Rattle.mc_image.specs.declared.judge.Stage.{Stage}
-use Rattle.mc_image.specs.facts.Valid.{good_false, good_true}
+use Rattle.mc_image.specs.{declared.gather.Gather.{Gather}, declared.header.Header.{Header}, declared.judge.Judge.{Judge}, declared.judge.Judged.{Judged}}
+use Rattle.mc_image.specs.{declared.judge.Sealed.{Sealed}, declared.judge.Stage.{Stage}, facts.Valid.{good_false, good_true}}
 use Rattle.mc_image.specs.inner.Judging.{HasHeader, IsBeyond, IsInStage, IsPlain, IsProtected, IsSealed, Judges, judged_or_fault, verdict}
 use Rattle.mc_image.specs.inner.Reading.{Follows, Goes, IsHeader, Scans, entries_fault, head_fault, held}
-use Rattle.sha2.specs.Hashers.{Holds256}
-use Rattle.sha2.specs.declared.Sha256.{Sha256}
+use Rattle.sha2.specs.{Hashers.{Holds256}, declared.Sha256.{Sha256}}
 use Rattle.mc_image.specs.declared.judge.Stage.TheVariants as stages
 
 -- What the first bytes of an image say stays said, whatever follows.

@@ -2,22 +2,14 @@
 use Rattle.std.proofs.Common.{Bool, List, None, Option, Some, [], ap, append_assoc, arith, cond, drop, eq-eqb, false, is_some, length, min, refl, subst, suc, sym, take, true, zero, ℕ, ◌++◌, ◌+◌, ◌-◌, ◌<◌, ◌∙◌, ◌∷◌, ◌≡◌, ◌≢◌, ◌≤◌}
 use Rattle.std.proofs.lemmas.Bool.{eqb-true, le-ltb, lt-ltb, ltb-false, ne_eqb}
 use Rattle.std.proofs.lemmas.List.{append-nil, drop-append-le, drop_all, drop_at, length-append, length-drop, length-take, nil_from_length, take-append-drop, take-append-le, take-take, take_all, take_at, take_rest}
-use Rattle.std.specs.Option.{option_map}
-use Rattle.std.specs.Prelude.{is_none, nat_lt, not, unwrap_or, ◌==◌, ◌||◌}
-use Rattle.byteorder.specs.Endian.{little_number}
-use Rattle.byteorder.specs.Numbers.{little_from-append}
-use Rattle.mc_image.proofs.ByteNumbers.{take_split}
-use Rattle.mc_image.proofs.EntryLaws.{entries-first, entries-nil, entries-stuck, first-shorter, is_some-map, map_some}
-use Rattle.mc_image.proofs.ImageLaws.{in_is, not_some, u16_at-take}
-use Rattle.mc_image.proofs.Written.{appended}
+use Rattle.std.specs.{Option.{option_map}, Prelude.{is_none, nat_lt, not, unwrap_or, ◌==◌, ◌||◌}}
+use Rattle.byteorder.specs.{Endian.{little_number}, Numbers.{little_from-append}}
+use Rattle.mc_image.proofs.{ByteNumbers.{take_split}, EntryLaws.{entries-first, entries-nil, entries-stuck, first-shorter, is_some-map, map_some}}
+use Rattle.mc_image.proofs.{ImageLaws.{in_is, not_some, u16_at-take}, Written.{appended}}
 use Rattle.mc_image.specs.Image.{Entry, after_body, area_in, digests, entries_in, entries_of, entries_within, first_entry, u16_at, u32_at}
 use Rattle.mc_image.specs.Valid.{body_fault, digest_fault, fault_if, first_fault, header_fault, is_bad_area, plain_fault, protected_fault, ◌<+>◌}
-use Rattle.mc_image.specs.declared.areas.DigestValue.{DigestValue}
-use Rattle.mc_image.specs.declared.areas.Found.{Found}
-use Rattle.mc_image.specs.declared.areas.EntryPart.{EntryPart}
-use Rattle.mc_image.specs.declared.areas.ProtectedArea.{ProtectedArea}
-use Rattle.mc_image.specs.declared.areas.EntryScan.{EntryScan}
-use Rattle.mc_image.specs.declared.error.ImageError.{ImageError}
+use Rattle.mc_image.specs.{declared.areas.DigestValue.{DigestValue}, declared.areas.Found.{Found}, declared.areas.EntryPart.{EntryPart}}
+use Rattle.mc_image.specs.{declared.areas.ProtectedArea.{ProtectedArea}, declared.areas.EntryScan.{EntryScan}, declared.error.ImageError.{ImageError}}
 use Rattle.mc_image.specs.declared.error.ImageError.TheVariants.{BadTlvLength, BadTlvMagic, DigestLength, ManyDigests, NoDigest}
 use Rattle.mc_image.specs.declared.gather.Gather.{Gather}
 use Rattle.mc_image.specs.inner.Reading.{Finds, Follows, Goes, IsAt, IsEntered, IsInValue, IsKept, IsOne, IsOpen, Reaches, Scans, entries_fault, head_fault, held}

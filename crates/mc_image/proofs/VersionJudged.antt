@@ -1,16 +1,11 @@
 -- What reading gives for a text, by the form alone.
 use Rattle.std.proofs.Common.{◌≡◌, ℕ, ◌^◌, ◌<◌, true, List, [], ◌∷◌, ◌++◌, length, get_or, Some, None, Result, Ok, Err, refl, sym, ap, subst, ◌∙◌, arith, rules, append_assoc}
-use Rattle.std.specs.Prelude.{◌⊎◌, MatchResult, decimal, codes}
-use Rattle.std.specs.Char.{is_ascii_digit}
-use Rattle.std.specs.List.{list_all}
-use Rattle.std.proofs.lemmas.List.{append-nil}
-use Rattle.std.proofs.lemmas.Str.Parse.{IsNumeralModel, numerals_by_fold}
+use Rattle.std.proofs.{lemmas.List.{append-nil}, lemmas.Str.Parse.{IsNumeralModel, numerals_by_fold}}
 use Rattle.std.proofs.lemmas.Fmt.{digits_decimal, digits_value-decimal, decimal_nonempty, first_decimal, decimal_digit}
+use Rattle.std.specs.{Prelude.{◌⊎◌, MatchResult, decimal, codes}, Char.{is_ascii_digit}, List.{list_all}}
 use Rattle.mc_image.specs.VersionText.{value_after, IsNumeral, IsForm, AreInRange, version_of, Names, IsRefused, IsVersion, version_line}
-use Rattle.mc_image.specs.inner.VersionReading.{numbers_in, fitted, judged, version_read}
-use Rattle.mc_image.specs.declared.version.Version.{Version}
-use Rattle.mc_image.specs.declared.error.VersionError.{VersionError}
-use Rattle.mc_image.specs.declared.error.VersionError.TheVariants.{Range}
+use Rattle.mc_image.specs.{inner.VersionReading.{numbers_in, fitted, judged, version_read}, declared.version.Version.{Version}}
+use Rattle.mc_image.specs.{declared.error.VersionError.{VersionError}, declared.error.VersionError.TheVariants.{Range}}
 use Rattle.mc_image.proofs.VersionLaws.{capped_number, all_padded, form_takes, form_again}
 
 -- four numbers, each at most 2 ^ 32

@@ -1,13 +1,7 @@
 -- A text that is read is in the form, and a text in the form is read: as its numbers, each at most 2 ^ 32.
 use Rattle.std.proofs.Common.{◌≡◌, ℕ, ◌+◌, ◌-◌, ◌*◌, ◌^◌, ◌<◌, true, false, cond, List, [], ◌∷◌, ◌++◌, length, Option, Some, None, refl, sym, ap, subst, ◌∙◌, arith, eq-eqb}
-use Rattle.std.specs.Prelude.{min, ◌==◌, option_and_then}
-use Rattle.std.specs.Option.{option_map}
-use Rattle.std.specs.Char.{is_ascii_digit}
-use Rattle.std.specs.List.{list_all}
-use Rattle.std.proofs.lemmas.Bool.Decides.{nat_tests}
-use Rattle.std.proofs.lemmas.Bool.{eqb-true, and_parts}
-use Rattle.std.proofs.lemmas.List.{nil_from_length}
-use Rattle.std.proofs.lemmas.Option.{cond_some}
+use Rattle.std.proofs.{lemmas.Bool.Decides.{nat_tests}, lemmas.Bool.{eqb-true, and_parts}, lemmas.List.{nil_from_length}, lemmas.Option.{cond_some}}
+use Rattle.std.specs.{Prelude.{min, ◌==◌, option_and_then}, Option.{option_map}, Char.{is_ascii_digit}, List.{list_all}}
 use Rattle.mc_image.specs.VersionText.{value_after, IsNumeral, Follows, IsForm}
 use Rattle.mc_image.specs.inner.VersionReading.{number_from, numeral_at, part_at, parts_after, numbers_in}
 use Rattle.mc_image.proofs.EntryLaws.{map_some}

@@ -1,18 +1,13 @@
 -- The tests of a valid image decide, and what a view shows.
 use Rattle.std.proofs.Common.{Bool, List, None, Option, Some, [], ap, arith, cond, drop, false, is_some, length, refl, subst, sym, take, true, ℕ, ◌++◌, ◌<◌, ◌∙◌, ◌∷◌, ◌≡◌, ◌≤◌}
-use Rattle.std.proofs.lemmas.Bool.{and_parts}
-use Rattle.std.proofs.lemmas.List.{append-nil, take-append-drop, take_at}
-use Rattle.std.proofs.lemmas.Option.{cond_some}
-use Rattle.std.specs.Cmp.Derive.{both_true}
-use Rattle.std.specs.Prelude.{IfSome, is_none, not, unwrap_or}
+use Rattle.std.proofs.{lemmas.Bool.{and_parts}, lemmas.List.{append-nil, take-append-drop, take_at}, lemmas.Option.{cond_some}}
+use Rattle.std.specs.{Cmp.Derive.{both_true}, Prelude.{IfSome, is_none, not, unwrap_or}}
 use Rattle.mc_image.proofs.EntryLaws.{entries-again, entries-nil, in-first, in-none}
 use Rattle.mc_image.proofs.ImageLaws.{begins_is, begins_none, begins_one, both_none, header_len, header_reads, version_again}
 use Rattle.mc_image.specs.Image.{Begins, EntriesFit, Entry, Image, IsBytes, IsGood, IsImage, IsView, Listed, entries_in, entries_of, first_entry, header_text, image_in, image_text, left_of, listed, listing, plain_text, protected_area, protected_text, u32_at, version_in}
 use Rattle.mc_image.specs.Valid.{Identity, IsValid, fault_if, first_fault, id_of, identity, image_fault, is_good, is_valid}
-use Rattle.mc_image.specs.declared.entries.Area.TheVariants.{Plain, Protected}
-use Rattle.mc_image.specs.declared.error.ImageError.{ImageError}
-use Rattle.mc_image.specs.declared.error.ImageError.TheVariants.{WrongDigest}
-use Rattle.mc_image.specs.declared.version.Version.{Version}
+use Rattle.mc_image.specs.{declared.entries.Area.TheVariants.{Plain, Protected}, declared.error.ImageError.{ImageError}}
+use Rattle.mc_image.specs.{declared.error.ImageError.TheVariants.{WrongDigest}, declared.version.Version.{Version}}
 use Rattle.mc_image.specs.facts.Valid.{good_false, good_true, test_good}
 
 -- The tests of a valid image decide, and images go along with the prefix of the bytes.

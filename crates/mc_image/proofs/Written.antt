@@ -1,20 +1,14 @@
 -- The parts of an image that is written, their sizes first.
 use Rattle.std.proofs.Common.{Bool, Err, List, None, Ok, Result, Some, [], ap, append_assoc, arith, drop, false, get_or, length, refl, sym, take, true, ℕ, ◌++◌, ◌+◌, ◌<◌, ◌^◌, ◌∙◌, ◌∷◌, ◌≡◌, ◌≤◌}
-use Rattle.std.proofs.Transfers.{starts_with_of_append}
-use Rattle.std.proofs.lemmas.Bool.{le-ltb, lt-ltb, ltb-false, or_parts}
+use Rattle.std.proofs.{Transfers.{starts_with_of_append}, lemmas.Bool.{le-ltb, lt-ltb, ltb-false, or_parts}}
 use Rattle.std.proofs.lemmas.List.{append-nil, drop_at, get_or_default, length-append, map-append, map_more, take-append-drop}
 use Rattle.std.proofs.lemmas.List.Concat.{flat_map-append}
-use Rattle.std.specs.Borrow.{Bor}
-use Rattle.std.specs.Io.{StartsWith}
-use Rattle.std.specs.List.{list_any}
-use Rattle.std.specs.Prelude.{IfSome, OnOk, cond, if◌then◌else◌, nat_lt, ◌==◌, ◌||◌}
-use Rattle.std.specs.Result.{is_ok}
+use Rattle.std.specs.{Borrow.{Bor}, Io.{StartsWith}, List.{list_any}, Prelude.{IfSome, OnOk, cond, if◌then◌else◌, nat_lt, ◌==◌, ◌||◌}, Result.{is_ok}}
 use Rattle.byteorder.specs.Endian.{little_bytes}
 use Rattle.mc_image.proofs.ImageLaws.{header_len}
 use Rattle.mc_image.specs.Image.{EntriesFit, Entry, EntryFits, IsGood, IsImage, area_text, covered_text, digest_of, digests, entries_text, entry_text, header_text, image_text, plain_text, protected_area, protected_text, version_text}
 use Rattle.mc_image.specs.Writing.{AreSizes, AreSmall, FieldsFit, area_of, entry_view, image_of, is_too_large, sizes_text, undigested, views, with_digest, write_fault}
-use Rattle.mc_image.specs.declared.error.ImageError.{ImageError}
-use Rattle.mc_image.specs.declared.error.ImageError.TheVariants.{ManyDigests, TooLarge}
+use Rattle.mc_image.specs.{declared.error.ImageError.{ImageError}, declared.error.ImageError.TheVariants.{ManyDigests, TooLarge}}
 use Rattle.mc_image.specs.declared.writing.ImageParts.{ImageParts}
 use Rattle.sha2.proofs.Facts256.{length-sha256}
 use Rattle.sha2.specs.Sha256.{sha256}

@@ -1,10 +1,8 @@
 -- The text of a version (imgtool's documentation, option `--version`): `major[.minor[.revision[+build]]]`, decimal
 -- numbers without leading zeros, missing ones 0.
-use Rattle.std.specs.Prelude.{◌≡◌, ℕ, ◌+◌, ◌-◌, ◌*◌, ◌^◌, ◌<◌, List, [], ◌∷◌, ◌++◌, length, get_or, codes, decimal, true}
-use Rattle.std.specs.Char.{is_ascii_digit}
+use Rattle.std.specs.{Prelude.{◌≡◌, ℕ, ◌+◌, ◌-◌, ◌*◌, ◌^◌, ◌<◌, List, [], ◌∷◌, ◌++◌, length, get_or, codes, decimal, true}, Char.{is_ascii_digit}}
 use Rattle.std.specs.List.{list_all}
-use Rattle.mc_image.specs.declared.version.Version.{Version}
-use Rattle.mc_image.specs.declared.error.VersionError.{VersionError}
+use Rattle.mc_image.specs.{declared.version.Version.{Version}, declared.error.VersionError.{VersionError}}
 use Rattle.mc_image.specs.declared.error.VersionError.TheVariants.{Syntax, Range}
 
 -- all four parts: what is printed

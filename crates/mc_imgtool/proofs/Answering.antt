@@ -1,10 +1,8 @@
 -- What goes through readers and writers, and each end of an engine.
 use Rattle.std.proofs.Common.{Err, List, None, Ok, Option, Result, Some, [], ap, append-nil, arith, inl, inr, length, length-append, length-take, min, subst, sym, take, ℕ, ◌++◌, ◌+◌, ◌-◌, ◌<◌, ◌^◌, ◌∙◌, ◌≡◌, ◌≤◌}
 use Rattle.std.proofs.KnownBytes.{Consumes-trans, Keeps-refl}
-use Rattle.std.specs.Io.KnownBytes.{Consumes}
-use Rattle.std.specs.Prelude.{IfSome, ◌⊎◌}
-use Rattle.mc_imgtool.specs.Engines.{Refuses, RefusesReading}
-use Rattle.mc_imgtool.specs.declared.error.ToolError.{ToolError}
+use Rattle.std.specs.{Io.KnownBytes.{Consumes}, Prelude.{IfSome, ◌⊎◌}}
+use Rattle.mc_imgtool.specs.{Engines.{Refuses, RefusesReading}, declared.error.ToolError.{ToolError}}
 use Rattle.mc_imgtool.specs.declared.error.ToolError.TheVariants.{Image, InputTooLong, Memory, NeedsSlotSize, NotZeros, Read, SlotTooSmall, Write}
 use Rattle.mc_output.specs.Text.{AppendsPrefix}
 

@@ -1,18 +1,11 @@
 -- What a judge's answer says of what is wanted of `verify`.
-use Rattle.std.proofs.Common.{◌≡◌, ℕ, ◌<◌, ◌≤◌, ◌^◌, List, length, Option, None, Some, Result, Ok, Err, refl, sym, ap, ◌∙◌, subst}
-use Rattle.std.specs.Prelude.{IfSome, IfErr, OnOk}
-use Rattle.std.specs.Io.KnownBytes.{Appends}
-use Rattle.std.proofs.KnownBytes.{Keeps-refl}
-use Rattle.mc_image.specs.Image.{Image, image_in}
-use Rattle.mc_image.specs.Valid.{image_fault}
-use Rattle.mc_image.specs.inner.Judging.{judged_of, judged_or_fault, verdict}
-use Rattle.mc_image.specs.declared.error.ImageError.{ImageError}
-use Rattle.mc_image.specs.declared.judge.Judged.{Judged}
-use Rattle.mc_imgtool.specs.Engines.{Answers, Refuses, Judges}
-use Rattle.mc_output.specs.Text.{AppendsPrefix}
-use Rattle.mc_imgtool.specs.Lines.{good_line, good_text, line_or_fault, verified}
-use Rattle.mc_imgtool.specs.declared.error.ToolError.{ToolError}
+use Rattle.std.proofs.{Common.{◌≡◌, ℕ, ◌<◌, ◌≤◌, ◌^◌, List, length, Option, None, Some, Result, Ok, Err, refl, sym, ap, ◌∙◌, subst}, KnownBytes.{Keeps-refl}}
+use Rattle.std.specs.{Prelude.{IfSome, IfErr, OnOk}, Io.KnownBytes.{Appends}}
+use Rattle.mc_image.specs.{Image.{Image, image_in}, Valid.{image_fault}, inner.Judging.{judged_of, judged_or_fault, verdict}}
+use Rattle.mc_image.specs.{declared.error.ImageError.{ImageError}, declared.judge.Judged.{Judged}}
+use Rattle.mc_imgtool.specs.{Engines.{Answers, Refuses, Judges}, Lines.{good_line, good_text, line_or_fault, verified}, declared.error.ToolError.{ToolError}}
 use Rattle.mc_imgtool.specs.declared.error.ToolError.TheVariants.{Image as image_error, NotZeros, SlotTooSmall, NeedsSlotSize, InputTooLong, Read, Write, Memory}
+use Rattle.mc_output.specs.Text.{AppendsPrefix}
 use Rattle.mc_imgtool.proofs.Wanted.{verified_short, verified_wanted}
 
 good_is : (v : Image) → good_line v ≡ good_text (judged_of v)

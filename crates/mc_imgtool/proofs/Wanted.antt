@@ -2,17 +2,12 @@
 use Rattle.std.proofs.Common.{Bool, Err, List, None, Ok, Option, Result, Some, [], ap, append_assoc, arith, cond, drop, false, inl, inr, length, length-drop, refl, replicate, subst, sym, true, ℕ, ◌++◌, ◌<◌, ◌^◌, ◌∙◌, ◌≡◌, ◌≤◌}
 use Rattle.std.proofs.lemmas.Bool.{le-ltb, lt-ltb}
 use Rattle.std.specs.Prelude.{IfOk, nat_lt, ◌-◌, ◌⊎◌}
-use Rattle.mc_image.specs.Image.{Entry, Image, image_in, image_text}
-use Rattle.mc_image.specs.Valid.{IsValid, first_fault, image_fault}
-use Rattle.mc_image.specs.Writing.{area_of, image_of, undigested, views, with_digest}
-use Rattle.mc_image.specs.declared.error.ImageError.{ImageError}
-use Rattle.mc_image.specs.declared.version.Version.{Version}
-use Rattle.mc_image.specs.declared.writing.ImageParts.{ImageParts}
+use Rattle.mc_image.specs.{Image.{Entry, Image, image_in, image_text}, Valid.{IsValid, first_fault, image_fault}}
+use Rattle.mc_image.specs.{Writing.{area_of, image_of, undigested, views, with_digest}, declared.error.ImageError.{ImageError}}
+use Rattle.mc_image.specs.{declared.version.Version.{Version}, declared.writing.ImageParts.{ImageParts}}
 use Rattle.mc_imgtool.proofs.Answering.{IsWanted}
 use Rattle.mc_imgtool.specs.Created.{bare_image, counter_area, created, filled_slot, fills_slot, in_slot, is_too_small, lacks_zeros, needs_slot_size, payload_in, slotted}
-use Rattle.mc_imgtool.specs.Engines.{Gives}
-use Rattle.mc_imgtool.specs.Lines.{dumped, line_or_fault, report, report_or_fault, verified}
-use Rattle.mc_imgtool.specs.declared.creation.CreateOptions.{CreateOptions}
+use Rattle.mc_imgtool.specs.{Engines.{Gives}, Lines.{dumped, line_or_fault, report, report_or_fault, verified}, declared.creation.CreateOptions.{CreateOptions}}
 use Rattle.mc_imgtool.specs.declared.error.ToolError.{ToolError}
 use Rattle.mc_imgtool.specs.declared.error.ToolError.TheVariants.{Image as image_error, InputTooLong, Memory, NeedsSlotSize, NotZeros, SlotTooSmall, Write}
 

@@ -2,10 +2,8 @@
 use Rattle.std.specs.Prelude.{ℕ, ◌+◌, ◌-◌, ◌*◌, ◌^◌, Bool, false, List, [], ◌∷◌, ◌++◌, length, take, drop, replicate, nat_lt, ◌==◌, ◌&&◌, ◌||◌, not, is_none, if◌then◌else◌, Option, None, Some, Result, Ok, Err}
 use Rattle.std.specs.List.{list_all}
 use Rattle.byteorder.specs.Endian.{little_bytes}
-use Rattle.mc_image.specs.Image.{Entry, Image, image_text}
-use Rattle.mc_image.specs.Writing.{with_digest}
-use Rattle.mc_imgtool.specs.declared.creation.CreateOptions.{CreateOptions}
-use Rattle.mc_imgtool.specs.declared.error.ToolError.{ToolError}
+use Rattle.mc_image.specs.{Image.{Entry, Image, image_text}, Writing.{with_digest}}
+use Rattle.mc_imgtool.specs.{declared.creation.CreateOptions.{CreateOptions}, declared.error.ToolError.{ToolError}}
 use Rattle.mc_imgtool.specs.declared.error.ToolError.TheVariants.{NotZeros, SlotTooSmall, NeedsSlotSize, InputTooLong}
 
 -- the image is to fill its slot; `confirm` implies it

@@ -1,17 +1,11 @@
 -- What `verify` and `dumpinfo` write (imgtool's documentation has the commands; the texts are this project's own).
 use Rattle.std.specs.Prelude.{ℕ, Bool, ◌-◌, ◌^◌, List, [], ◌∷◌, ◌++◌, length, codes, decimal, nat_lt, if◌then◌else◌, Option, Some, None, Result, Ok, Err}
-use Rattle.std.specs.List.{flat_map}
-use Rattle.std.specs.Int.{w16, w32, to_be_bytes}
+use Rattle.std.specs.{List.{flat_map}, Int.{w16, w32, to_be_bytes}}
 use Rattle.hex.specs.Hex.{encode_lower}
 use Rattle.mc_image.specs.Image.{Image, header_text, protected_text, image_in, image_text, digest_of, Listed, listing}
-use Rattle.mc_image.specs.Valid.{first_fault, is_good, image_fault}
-use Rattle.mc_image.specs.declared.entries.Area.{Area}
-use Rattle.mc_image.specs.declared.entries.Area.TheVariants.{Protected, Plain}
-use Rattle.mc_image.specs.VersionText.{version_line}
-use Rattle.mc_image.specs.declared.error.ImageError.{ImageError}
-use Rattle.mc_image.specs.declared.judge.Judged.{Judged}
-use Rattle.mc_imgtool.specs.declared.error.ToolError.{ToolError}
-use Rattle.mc_imgtool.specs.declared.error.ToolError.TheVariants.{Image as image_error, InputTooLong}
+use Rattle.mc_image.specs.{Valid.{first_fault, is_good, image_fault}, declared.entries.Area.{Area}, declared.entries.Area.TheVariants.{Protected, Plain}}
+use Rattle.mc_image.specs.{VersionText.{version_line}, declared.error.ImageError.{ImageError}, declared.judge.Judged.{Judged}}
+use Rattle.mc_imgtool.specs.{declared.error.ToolError.{ToolError}, declared.error.ToolError.TheVariants.{Image as image_error, InputTooLong}}
 
 -- the line for a valid image: version, size, digest in hexadecimal
 unfoldable pub good_line : Image → List ℕ

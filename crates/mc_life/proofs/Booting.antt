@@ -1,20 +1,13 @@
 -- A boot that goes on step by step, and how far it has come at a cut.
 use Rattle.std.specs.Prelude.{◌≡◌, ℕ, zero, suc, ◌+◌, ◌<◌, ◌≤◌, ◌⊎◌, nat_lt, Bool, true, false, if◌then◌else◌, List, [], ◌∷◌, ◌++◌, length, take, drop, slice_get, Option, Some, None, is_some, option_and_then, IfSome, IsSomeAnd, Ok, Err, refl}
-use Rattle.std.proofs.Common.{arith, sym, ap, subst, append-nil, append_assoc, drop-cons, get_or, ◌∙◌}
-use Rattle.std.proofs.lemmas.Bool.Decides.{nat_tests}
+use Rattle.std.proofs.{Common.{arith, sym, ap, subst, append-nil, append_assoc, drop-cons, get_or, ◌∙◌}, lemmas.Bool.Decides.{nat_tests}}
 use Rattle.std.proofs.lemmas.List.{length-append, take_all, take_at}
-use Rattle.mc_boot.specs.Boot.{Progress, Steps, StepsAlong, begun, HasCome}
-use Rattle.mc_boot.specs.Outcome.{Report, outcome_of, after, at, cut_at, first_then, happening, ops_of}
-use Rattle.mc_boot.specs.Plan.{plan, PowerOn, again, power_on, powered}
-use Rattle.mc_boot.specs.facts.Run.{come_at, come_count, come_prefix, come_ops}
-use Rattle.mc_flash.specs.Flash.{apply, in_slot, is_blank, Content, bytes_of, put, size_of}
-use Rattle.mc_flash.specs.Geometry.{Geometry}
-use Rattle.mc_flash.specs.Usage.{Seen}
+use Rattle.mc_boot.specs.{Boot.{Progress, Steps, StepsAlong, begun, HasCome}, Outcome.{Report, outcome_of, after, at, cut_at, first_then, happening, ops_of}}
+use Rattle.mc_boot.specs.{Plan.{plan, PowerOn, again, power_on, powered}, facts.Run.{come_at, come_count, come_prefix, come_ops}}
+use Rattle.mc_flash.specs.{Flash.{apply, in_slot, is_blank, Content, bytes_of, put, size_of}, Geometry.{Geometry}, Usage.{Seen}}
 use Rattle.mc_trailer.specs.declared.tables.Rules.{Rules}
 use Rattle.mc_flash.specs.declared.flash.FlashError.TheVariants as errors
-use Rattle.mc_flash.specs.declared.op.Op.{Op}
-use Rattle.mc_flash.specs.declared.op.Op.TheVariants.{Copy}
-use Rattle.mc_flash.specs.declared.op.Slot.{Slot}
+use Rattle.mc_flash.specs.{declared.op.Op.{Op}, declared.op.Op.TheVariants.{Copy}, declared.op.Slot.{Slot}}
 use Rattle.std.specs.List.{between}
 use Rattle.std.proofs.lemmas.List.Edits.{length-between}
 use Rattle.mc_life.specs.Device.{Cuts, FailsAt, cut_ops, from, Counts, worn}

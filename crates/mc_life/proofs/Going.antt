@@ -4,24 +4,16 @@ use Rattle.std.specs.List.{between}
 use Rattle.std.proofs.Common.{inl, inr, sym, ap, subst, ◌∙◌}
 use Rattle.mc_boot.specs.Restart.{confirmed}
 use Rattle.mc_boot.specs.Life.{AreSecondary, Event, Leads, Lives, Moment, boot, confirm, cut, is_boot, mark, resting, starts_image, store}
-use Rattle.mc_boot.specs.Outcome.{Report, outcome_of, after, cut_at, left_by, ops_of}
-use Rattle.mc_boot.specs.Plan.{PowerOn, again, power_on, powered, image_ok_write}
-use Rattle.mc_flash.specs.Flash.{Content, put, with_bytes, apply, erased, in_slot, is_blank}
-use Rattle.mc_flash.specs.declared.flash.FlashError.{FlashError}
+use Rattle.mc_boot.specs.{Outcome.{Report, outcome_of, after, cut_at, left_by, ops_of}, Plan.{PowerOn, again, power_on, powered, image_ok_write}}
+use Rattle.mc_flash.specs.{Flash.{Content, put, with_bytes, apply, erased, in_slot, is_blank}, declared.flash.FlashError.{FlashError}}
 use Rattle.mc_flash.specs.declared.flash.FlashError.TheVariants as errors
-use Rattle.mc_flash.specs.Geometry.{Geometry}
-use Rattle.mc_flash.specs.Usage.{Does, Seen, done}
-use Rattle.mc_flash.specs.facts.Done.{did, does_keep, undefined}
-use Rattle.mc_flash.specs.declared.op.Op.TheVariants.{Erase, Program}
-use Rattle.mc_flash.specs.declared.op.Op.{Op}
-use Rattle.mc_flash.specs.declared.op.Slot.TheVariants.{Primary, Secondary}
-use Rattle.mc_trailer.specs.Trailer.{one_unit, trailer_of, magic_bytes, room}
-use Rattle.mc_trailer.specs.Tables.{is_set}
+use Rattle.mc_flash.specs.{Geometry.{Geometry}, Usage.{Does, Seen, done}, facts.Done.{did, does_keep, undefined}, declared.op.Op.TheVariants.{Erase, Program}}
+use Rattle.mc_flash.specs.{declared.op.Op.{Op}, declared.op.Slot.TheVariants.{Primary, Secondary}}
+use Rattle.mc_trailer.specs.{Trailer.{one_unit, trailer_of, magic_bytes, room}, Tables.{is_set}}
 use Rattle.mc_trailer.specs.declared.places.Field.TheVariants as field
 use Rattle.mc_trailer.specs.declared.tables.Rules.{Rules}
 use Rattle.mc_life.specs.Device.{EndsAs, boot_ops, cut_ops, from, AskFails, RefusesRequest, of_flash, Goes, Standing, moment, Counts, worn, boots, magic_write, marked, with_image_ok, with_magic}
-use Rattle.mc_life.specs.declared.error.EventError.{EventError}
-use Rattle.mc_life.specs.declared.request.Request.{Request}
+use Rattle.mc_life.specs.{declared.error.EventError.{EventError}, declared.request.Request.{Request}}
 use Rattle.mc_life.specs.declared.request.Request.TheVariants as requests
 use Rattle.mc_life.proofs.Worn.{worn_both}
 

@@ -3,8 +3,7 @@ use Rattle.std.specs.Prelude.{◌≡◌, ℕ, suc, ◌+◌, ◌<◌, ◌≤◌, 
 use Rattle.std.specs.Io.KnownBytes.{Appends}
 use Rattle.std.proofs.Common.{arith, sym, ap, subst, append-nil, get_or, drop-cons, drop_of_length-le, ◌∙◌}
 use Rattle.mc_life.specs.Script.{Named, file_of}
-use Rattle.mc_output.specs.Text.{AppendsPrefix}
-use Rattle.mc_output.specs.facts.Prefixes.{IsOut, out_all, out_begun, out_prefix, out_more}
+use Rattle.mc_output.specs.{Text.{AppendsPrefix}, facts.Prefixes.{IsOut, out_all, out_begun, out_prefix, out_more}}
 
 module _ (a w b : List ℕ) (before mid : Option (List ℕ)) where
   pub first_begun : AppendsPrefix before mid a → AppendsPrefix before mid (a ++ (w ++ b))

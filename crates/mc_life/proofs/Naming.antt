@@ -1,8 +1,7 @@
 -- The files that a script names, line by line.
 use Rattle.std.specs.Prelude.{◌≡◌, ℕ, List, [], ◌∷◌, ◌++◌, Option, Some, None, option_and_then, refl}
 use Rattle.std.proofs.Common.{sym, ap, append_assoc, ◌∙◌}
-use Rattle.mc_life.specs.declared.event.Event.{Event}
-use Rattle.mc_life.specs.Script.{Names, ReadsEvent, before, file_named, lines_left, lines_of}
+use Rattle.mc_life.specs.{declared.event.Event.{Event}, Script.{Names, ReadsEvent, before, file_named, lines_left, lines_of}}
 
 -- One line more.
 names_more : (lines : List (List ℕ)) (line : List ℕ) (names : List (List ℕ)) (e : Option Event) → ReadsEvent line e → Names lines names

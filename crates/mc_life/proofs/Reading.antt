@@ -1,9 +1,7 @@
 -- How the line of an event is read.
 use Rattle.std.specs.Prelude.{◌≡◌, ℕ, ◌*◌, ◌<◌, ◌^◌, List, ◌++◌, length, take, drop, codes, decimal, Some, Result, Ok, Err, MatchResult, true, is_err}
-use Rattle.std.proofs.Common.{arith, ap}
-use Rattle.std.proofs.lemmas.List.{take_at}
-use Rattle.hex.specs.Hex.{IsBytes, decode_sized, encode_lower, lower_digits}
-use Rattle.hex.specs.declared.error.FromHexError.{FromHexError}
+use Rattle.std.proofs.{Common.{arith, ap}, lemmas.List.{take_at}}
+use Rattle.hex.specs.{Hex.{IsBytes, decode_sized, encode_lower, lower_digits}, declared.error.FromHexError.{FromHexError}}
 use Rattle.hex.proofs.HexLemmas.{length-encode_with, decode_of-encode_lower}
 use Rattle.mc_output.specs.facts.Parting.{AreParts, no_part, one_part}
 use Rattle.mc_life.specs.Script.{SaysNone}

@@ -1,24 +1,17 @@
 -- A script, replayed line by line.
 use Rattle.std.specs.Prelude.{◌≡◌, ℕ, ◌+◌, ◌≤◌, ◌==◌, Bool, true, false, if◌then◌else◌, List, [], ◌∷◌, ◌++◌, length, Option, Some, None, refl}
 use Rattle.std.specs.Io.KnownBytes.{Appends, Keeps}
-use Rattle.std.proofs.Common.{arith, inr, sym, ap, subst, append_assoc, append-nil, ◌∙◌}
-use Rattle.std.proofs.KnownBytes.{Appends-nil, Appends-trans}
-use Rattle.std.proofs.lemmas.Bool.Decides.{nat_tests}
-use Rattle.std.proofs.lemmas.List.{length-append}
-use Rattle.mc_boot.specs.Outcome.{Report}
-use Rattle.mc_output.specs.Text.{AppendsPrefix}
-use Rattle.mc_output.specs.facts.Parting.{AreParts, Lacks}
+use Rattle.std.proofs.{Common.{arith, inr, sym, ap, subst, append_assoc, append-nil, ◌∙◌}, KnownBytes.{Appends-nil, Appends-trans}}
+use Rattle.std.proofs.{lemmas.Bool.Decides.{nat_tests}, lemmas.List.{length-append}}
+use Rattle.mc_boot.specs.{Outcome.{Report}, Life.{Event as Happening, IsDelivered, LifeLaw, Lives, LivesOn, Moment, resting}}
+use Rattle.mc_output.specs.{Text.{AppendsPrefix}, facts.Parting.{AreParts, Lacks}}
 use Rattle.mc_start.specs.Start.{Started}
 use Rattle.mc_life.specs.Script.{Named, Either, is_skipped, lines_left, lines_of, onto, size_left}
-use Rattle.mc_boot.specs.Life.{Event as Happening, IsDelivered, LifeLaw, Lives, LivesOn, Moment, resting}
-use Rattle.mc_flash.specs.Flash.{Content}
-use Rattle.mc_flash.specs.Geometry.{Geometry, IsLayout}
-use Rattle.mc_flash.specs.declared.op.Op.{Op}
+use Rattle.mc_life.specs.Replay.{happenings, operations, BreaksOff, FailsLife, FailsLine, Happens, IsReplayed, RefusesLine, StopsAt, Replays, life_error, line_text}
+use Rattle.mc_life.specs.{Device.{Goes, IsNew, Standing, moment}, declared.life.LineError.{LineError}}
+use Rattle.mc_flash.specs.{Flash.{Content}, Geometry.{Geometry, IsLayout}, declared.op.Op.{Op}}
 use Rattle.mc_trailer.specs.declared.tables.Rules.{Rules}
 use Rattle.mc_life.proofs.Going.{lives_both}
-use Rattle.mc_life.specs.Replay.{happenings, operations, BreaksOff, FailsLife, FailsLine, Happens, IsReplayed, RefusesLine, StopsAt, Replays, life_error, line_text}
-use Rattle.mc_life.specs.Device.{Goes, IsNew, Standing, moment}
-use Rattle.mc_life.specs.declared.life.LineError.{LineError}
 use Rattle.mc_life.specs.declared.life.LineError.TheVariants as errors_of_line
 use Rattle.mc_life.specs.declared.error.EventError.{EventError}
 use Rattle.mc_life.specs.declared.error.EventError.TheVariants as errors

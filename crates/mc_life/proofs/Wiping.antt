@@ -1,21 +1,14 @@
 -- The secondary, erased sector by sector from its end.
 use Rattle.std.specs.Prelude.{◌≡◌, ℕ, zero, suc, ◌+◌, ◌-◌, ◌*◌, ◌≤◌, List, [], ◌∷◌, ◌++◌, length, take, drop, replicate, Some, None, Result, Err, OnOk, IfErr, Bool, true, refl, if◌then◌else◌, ◌%◌}
+use Rattle.std.specs.List.{between}
 use Rattle.std.proofs.Common.{append-nil, drop_of_length-le, arith, sym, ap, subst, ◌∙◌}
 use Rattle.std.proofs.lemmas.List.{length-take-le, length-drop, replicate-append-replicate, length-append, length-replicate, take_all}
-use Rattle.std.proofs.Math.Seq.{drop-append_seam}
-use Rattle.std.proofs.Math.Nat.{zero-mod}
-use Rattle.std.proofs.lemmas.Slice.{between_from_start}
-use Rattle.std.specs.List.{between}
-use Rattle.mc_flash.specs.Flash.{IsRange, apply, in_slot, is_blank, Content, put, size_of, with_bytes}
-use Rattle.mc_flash.specs.Geometry.{Geometry, IsLayout}
-use Rattle.mc_flash.specs.Usage.{Does, Seen, done}
-use Rattle.mc_flash.specs.declared.flash.FlashError.{FlashError}
+use Rattle.std.proofs.{Math.Seq.{drop-append_seam}, Math.Nat.{zero-mod}, lemmas.Slice.{between_from_start}}
+use Rattle.mc_flash.specs.{Flash.{IsRange, apply, in_slot, is_blank, Content, put, size_of, with_bytes}, Geometry.{Geometry, IsLayout}}
+use Rattle.mc_flash.specs.{Usage.{Does, Seen, done}, declared.flash.FlashError.{FlashError}}
 use Rattle.mc_flash.specs.declared.flash.FlashError.TheVariants as errors
-use Rattle.mc_flash.specs.declared.op.Slot.{Slot}
-use Rattle.mc_flash.specs.facts.Done.{did, undefined}
-use Rattle.mc_flash.specs.facts.Layouts.{sector_inside, whole_size}
-use Rattle.mc_flash.specs.declared.op.Op.TheVariants.{Erase, Program}
-use Rattle.mc_flash.specs.declared.op.Slot.TheVariants.{Secondary}
+use Rattle.mc_flash.specs.{declared.op.Slot.{Slot}, facts.Done.{did, undefined}, facts.Layouts.{sector_inside, whole_size}}
+use Rattle.mc_flash.specs.{declared.op.Op.TheVariants.{Erase, Program}, declared.op.Slot.TheVariants.{Secondary}}
 use Rattle.mc_life.proofs.Worn.{worn_both}
 use Rattle.mc_life.specs.Device.{Counts, worn, wiped, wipes}
 

@@ -1,12 +1,8 @@
 -- Counts after operations, one after another.
 use Rattle.std.specs.Prelude.{◌≡◌, ℕ, zero, suc, ◌+◌, ◌-◌, ◌^◌, ◌<◌, ◌≤◌, min, List, [], ◌∷◌, ◌++◌, length, refl}
-use Rattle.std.proofs.Common.{arith, ap, ◌∙◌, get_or}
-use Rattle.std.proofs.Math.ListN.{set}
+use Rattle.std.proofs.{Common.{arith, ap, ◌∙◌, get_or}, Math.ListN.{set}}
 use Rattle.mc_boot.specs.Life.{all_erases}
-use Rattle.mc_flash.specs.declared.op.Op.{Op}
-use Rattle.mc_flash.specs.declared.op.Op.TheVariants.{Erase}
-use Rattle.mc_flash.specs.declared.op.Slot.{Slot}
-use Rattle.mc_flash.specs.declared.op.Slot.TheVariants.{Primary, Secondary}
+use Rattle.mc_flash.specs.{declared.op.Op.{Op}, declared.op.Op.TheVariants.{Erase}, declared.op.Slot.{Slot}, declared.op.Slot.TheVariants.{Primary, Secondary}}
 use Rattle.mc_life.specs.Device.{AreCounts, Counts, worn, worn_from}
 
 pub all_erases_both : (slot : Slot) (sector : ℕ) (ops more : List Op) → all_erases slot sector (ops ++ more) ≡ all_erases slot sector ops + all_erases slot sector more

@@ -1,7 +1,6 @@
 -- The sector that was erased most often, and all erases.
 use Rattle.std.specs.Prelude.{◌≡◌, ℕ, ◌+◌, ◌-◌, ◌^◌, ◌<◌, ◌≤◌, ◌⊎◌, min, List, length, drop, get_or}
-use Rattle.std.proofs.Common.{arith, drop-cons, drop_of_length-le, inl, inr}
-use Rattle.std.proofs.lemmas.Bool.Decides.{eqb_tells}
+use Rattle.std.proofs.{Common.{arith, drop-cons, drop_of_length-le, inl, inr}, lemmas.Bool.Decides.{eqb_tells}}
 use Rattle.mc_life.specs.Device.{IsMost, sum_of, total}
 
 -- The most of the first counts.

@@ -1,22 +1,13 @@
 -- A device as callers see it, what can happen to it, what is refused of that, and how often its sectors were erased (docs/LIFE.md).
 use Rattle.std.specs.Prelude.{Bool, List, None, Option, Some, [], codes, decimal, false, get_or, length, map, min, replicate, slice_get, suc, take, true, zero, ℕ, ⊤, ◌++◌, ◌+◌, ◌-◌, ◌<◌, ◌^◌, ◌∷◌, ◌≡◌, ◌≢◌, ◌≤◌, ◌⊎◌}
-use Rattle.mc_boot.specs.Life.{Event, Lives, Moment, all_erases, boot, cut}
-use Rattle.mc_boot.specs.Outcome.{Report, after, cut_at, ops_of, outcome_of}
+use Rattle.mc_boot.specs.{Life.{Event, Lives, Moment, all_erases, boot, cut}, Outcome.{Report, after, cut_at, ops_of, outcome_of}}
 use Rattle.mc_boot.specs.Plan.{PowerOn, again, image_ok_write}
-use Rattle.mc_flash.specs.Flash.{Content, apply, put, sectors_of, size_of, with_bytes}
-use Rattle.mc_flash.specs.Geometry.{Geometry}
-use Rattle.mc_flash.specs.Usage.{Seen}
-use Rattle.mc_flash.specs.declared.flash.FlashError.{FlashError}
-use Rattle.mc_flash.specs.declared.op.Op.{Op}
-use Rattle.mc_flash.specs.declared.op.Op.TheVariants.{Erase, Program}
-use Rattle.mc_flash.specs.declared.op.Slot.{Slot}
+use Rattle.mc_flash.specs.{Flash.{Content, apply, put, sectors_of, size_of, with_bytes}, Geometry.{Geometry}, Usage.{Seen}}
+use Rattle.mc_flash.specs.{declared.flash.FlashError.{FlashError}, declared.op.Op.{Op}, declared.op.Op.TheVariants.{Erase, Program}, declared.op.Slot.{Slot}}
 use Rattle.mc_flash.specs.declared.op.Slot.TheVariants.{Primary, Secondary}
-use Rattle.mc_life.specs.declared.error.EventError.{EventError}
-use Rattle.mc_life.specs.declared.request.Request.{Request}
+use Rattle.mc_life.specs.{declared.error.EventError.{EventError}, declared.request.Request.{Request}}
 use Rattle.mc_start.specs.Start.{Started}
-use Rattle.mc_trailer.specs.Tables.{is_set}
-use Rattle.mc_trailer.specs.Trailer.{magic_bytes, one_unit, place, room, trailer_of}
-use Rattle.mc_trailer.specs.declared.tables.Rules.{Rules}
+use Rattle.mc_trailer.specs.{Tables.{is_set}, Trailer.{magic_bytes, one_unit, place, room, trailer_of}, declared.tables.Rules.{Rules}}
 use Rattle.mc_life.specs.declared.error.EventError.TheVariants as errors
 use Rattle.mc_trailer.specs.declared.places.Field.TheVariants as field
 use Rattle.mc_flash.specs.declared.flash.FlashError.TheVariants as flashes

@@ -1,23 +1,13 @@
 -- What each event of a script leads to, and the lines that are printed of it.
 use Rattle.std.specs.Io.KnownBytes.{Appends, Keeps}
 use Rattle.std.specs.Prelude.{Bool, List, None, Option, Some, [], codes, decimal, false, length, option_map, true, ℕ, ⊤, ◌++◌, ◌+◌, ◌∷◌, ◌≡◌, ◌⊎◌}
-use Rattle.mc_boot.specs.Life.{DeviceState, Event as Happening, confirm, cut, device_state, mark, store}
-use Rattle.mc_boot.specs.Outcome.{Report, result_text}
-use Rattle.mc_boot.specs.Plan.{PowerOn, identity_of, powered}
-use Rattle.mc_boot.specs.Restart.{filled}
-use Rattle.mc_flash.specs.Flash.{erased}
-use Rattle.mc_flash.specs.declared.op.Op.{Op}
-use Rattle.mc_flash.specs.declared.op.Op.TheVariants.{Erase}
-use Rattle.mc_flash.specs.declared.op.Slot.TheVariants.{Secondary}
-use Rattle.mc_image.specs.Valid.{Identity}
-use Rattle.mc_image.specs.VersionText.{version_line}
+use Rattle.mc_boot.specs.{Life.{DeviceState, Event as Happening, confirm, cut, device_state, mark, store}, Outcome.{Report, result_text}}
+use Rattle.mc_boot.specs.{Plan.{PowerOn, identity_of, powered}, Restart.{filled}}
+use Rattle.mc_flash.specs.{Flash.{erased}, declared.op.Op.{Op}, declared.op.Op.TheVariants.{Erase}, declared.op.Slot.TheVariants.{Secondary}}
+use Rattle.mc_image.specs.{Valid.{Identity}, VersionText.{version_line}}
 use Rattle.mc_life.specs.Device.{EndsAs, Goes, IsNew, RefusesConfirm, RefusesCuts, RefusesDownload, RefusesErase, RefusesMark, RefusesRequest, RefusesStore, Standing, asked, boot_ops, boots, cut_ops, loaded, wipes}
-use Rattle.mc_life.specs.Script.{Either, IsEvent, Named, event_text, file_of, held, is_skipped, lines_of}
-use Rattle.mc_life.specs.declared.error.EventError.{EventError}
-use Rattle.mc_life.specs.declared.event.Event.{Event}
-use Rattle.mc_life.specs.declared.life.LifeError.{LifeError}
-use Rattle.mc_life.specs.declared.life.LineError.{LineError}
-use Rattle.mc_life.specs.declared.state.State.{State}
+use Rattle.mc_life.specs.{Script.{Either, IsEvent, Named, event_text, file_of, held, is_skipped, lines_of}, declared.error.EventError.{EventError}}
+use Rattle.mc_life.specs.{declared.event.Event.{Event}, declared.life.LifeError.{LifeError}, declared.life.LineError.{LineError}, declared.state.State.{State}}
 use Rattle.mc_output.specs.Text.{AppendsPrefix}
 use Rattle.mc_start.specs.Start.{Started}
 use Rattle.mc_trailer.specs.Tables.{type_text}

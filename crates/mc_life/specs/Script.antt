@@ -3,9 +3,7 @@ use Rattle.std.specs.Prelude.{Bool, Err, IfSome, List, None, Ok, Option, Result,
 use Rattle.std.specs.Str.{IsUtf8}
 use Rattle.hex.specs.Hex.{IsBytes, encode_lower}
 use Rattle.mc_imgtool.specs.Engines.{RefusesReading}
-use Rattle.mc_life.specs.declared.error.ScriptError.{ScriptError}
-use Rattle.mc_life.specs.declared.event.Event.{Event}
-use Rattle.mc_life.specs.declared.request.Request.{Request}
+use Rattle.mc_life.specs.{declared.error.ScriptError.{ScriptError}, declared.event.Event.{Event}, declared.request.Request.{Request}}
 use Rattle.mc_output.specs.facts.Parting.{Lacks}
 use Rattle.mc_start.specs.Start.{IsSchedule, schedule_text}
 use Rattle.mc_life.specs.declared.error.ScriptError.TheVariants as refusals

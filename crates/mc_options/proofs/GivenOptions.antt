@@ -1,17 +1,13 @@
 -- What arguments give is given in one way.
 use Rattle.std.specs.Prelude.{◌≡◌, ◌⊎◌, ℕ, List, true, false, Option, Some, None, Result, Ok, Err, codes}
 use Rattle.std.proofs.Common.{sym, ap, ◌∙◌, refl, inl, inr}
-use Rattle.clap.specs.declared.parser.matches.Found.{Found}
+use Rattle.clap.specs.{declared.parser.matches.Found.{Found}, Words.{first_value}}
 use Rattle.mc_flash.specs.declared.layout.LayoutError.{LayoutError}
-use Rattle.clap.specs.Words.{first_value}
-use Rattle.mc_image.specs.declared.error.VersionError.{VersionError}
-use Rattle.mc_image.specs.declared.version.Version.{Version}
-use Rattle.mc_image.specs.VersionText.{Names}
+use Rattle.mc_image.specs.{declared.error.VersionError.{VersionError}, declared.version.Version.{Version}, VersionText.{Names}}
 use Rattle.mc_options.specs.Numbers.{GivesNoNumber}
 use Rattle.mc_options.specs.declared.numbers.NumberOption.TheVariants as numbers
 use Rattle.mc_trace.specs.declared.wear.Times.{Times}
-use Rattle.mc_options.specs.Arguments.{GivesSource, MayGiveTimes, RefusesSource, is_source, Judges}
-use Rattle.mc_options.specs.declared.options.Source.{Source}
+use Rattle.mc_options.specs.{Arguments.{GivesSource, MayGiveTimes, RefusesSource, is_source, Judges}, declared.options.Source.{Source}}
 use Rattle.mc_options.specs.declared.options.Source.TheVariants as sources
 use Rattle.mc_options.specs.declared.refusal.Refusal.{Refusal}
 use Rattle.mc_options.specs.declared.refusal.Refusal.TheVariants as refusals

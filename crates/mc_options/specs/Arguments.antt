@@ -1,29 +1,22 @@
 -- What the words of an argument say.
 use Rattle.std.specs.Prelude.{◌≡◌, ◌≤◌, ℕ, Bool, true, false, List, Option, Some, None, unwrap_or, option_map, is_some, IfSome, if◌then◌else◌, ◌-◌, ◌^◌, ◌&&◌, codes, Result, Err, IsOk}
-use Rattle.clap.specs.Words.{first_value, one_text}
-use Rattle.clap.specs.declared.parser.matches.Found.{Found}
+use Rattle.clap.specs.{Words.{first_value, one_text}, declared.parser.matches.Found.{Found}}
 use Rattle.mc_image.specs.VersionText.{Names}
 use Rattle.mc_imgtool.specs.declared.creation.CreateOptions.{CreateOptions}
 use Rattle.mc_options.specs.Numbers.{GivesNumber, MayGiveNumber, IsUnit}
 use Rattle.mc_options.specs.declared.numbers.NumberOption.TheVariants as numbers
-use Rattle.mc_flash.specs.Geometry.{Geometry}
-use Rattle.mc_flash.specs.declared.layout.LayoutError.{LayoutError}
+use Rattle.mc_flash.specs.{Geometry.{Geometry}, declared.layout.LayoutError.{LayoutError}}
 use Rattle.mc_start.specs.Start.{schedule_text}
 use Rattle.mc_boot.specs.declared.kind.Kind.{Kind}
 use Rattle.mc_boot.specs.declared.kind.Kind.TheVariants as kinds
 use Rattle.mc_flash.specs.Flash.{grain_text}
-use Rattle.mc_trailer.specs.declared.tables.Rules.{Rules}
-use Rattle.mc_trailer.specs.Tables.{profile_text}
+use Rattle.mc_trailer.specs.{declared.tables.Rules.{Rules}, Tables.{profile_text}}
 use Rattle.mc_trace.specs.declared.sectors.Moment.TheVariants as moments
-use Rattle.mc_trace.specs.declared.sectors.View.{View}
-use Rattle.mc_trace.specs.declared.cells.Words.{Words}
+use Rattle.mc_trace.specs.{declared.sectors.View.{View}, declared.cells.Words.{Words}}
 use Rattle.mc_trace.specs.declared.cells.Words.TheVariants as words
-use Rattle.mc_trace.specs.declared.trace.Span.{Span}
-use Rattle.mc_trace.specs.declared.wear.Times.{Times}
-use Rattle.mc_options.specs.declared.options.ExploreOptions.{ExploreOptions}
-use Rattle.mc_options.specs.declared.options.FlashOptions.{FlashOptions}
-use Rattle.mc_options.specs.declared.options.RangeOptions.{RangeOptions}
-use Rattle.mc_options.specs.declared.options.Source.{Source}
+use Rattle.mc_trace.specs.{declared.trace.Span.{Span}, declared.wear.Times.{Times}}
+use Rattle.mc_options.specs.{declared.options.ExploreOptions.{ExploreOptions}, declared.options.FlashOptions.{FlashOptions}}
+use Rattle.mc_options.specs.{declared.options.RangeOptions.{RangeOptions}, declared.options.Source.{Source}}
 use Rattle.mc_options.specs.declared.options.Source.TheVariants as sources
 use Rattle.mc_options.specs.declared.refusal.Refusal.{Refusal}
 use Rattle.mc_options.specs.declared.refusal.Refusal.TheVariants as refusals

@@ -1,8 +1,7 @@
 -- The numbers that options give: decimal digits, which a plus sign may precede, or hexadecimal digits after `0x` or `0X`.
 use Rattle.std.specs.Prelude.{◌≡◌, ℕ, ◌≤◌, ◌⊎◌, Bool, ◌==◌, ◌&&◌, ◌||◌, if◌then◌else◌, List, drop, slice_index, Option, Some, None, codes}
 use Rattle.std.specs.Str.Parse.{IsNumeral, digits_value, without_leading_plus}
-use Rattle.clap.specs.Words.{first_value}
-use Rattle.clap.specs.declared.parser.matches.Found.{Found}
+use Rattle.clap.specs.{Words.{first_value}, declared.parser.matches.Found.{Found}}
 use Rattle.mc_options.specs.declared.numbers.NumberOption.{NumberOption}
 use Rattle.mc_options.specs.declared.numbers.NumberOption.TheVariants as numbers
 

@@ -1,11 +1,9 @@
 -- The start that the bytes of a source's files make.
-use Rattle.std.specs.Prelude.{◌≡◌, ℕ, ◌^◌, List, Vec, Ok, ⊤}
-use Rattle.std.specs.declared.alloc.Global.{Global}
+use Rattle.std.specs.{Prelude.{◌≡◌, ℕ, ◌^◌, List, Vec, Ok, ⊤}, declared.alloc.Global.{Global}}
 use denote.Ref.{Bor}
 use Rattle.mc_flash.specs.Geometry.{Geometry}
 use Rattle.mc_start.specs.Start.{Started, Starts, Gives, of_flash}
-use Rattle.mc_options.specs.declared.options.FlashOptions.{FlashOptions}
-use Rattle.mc_options.specs.declared.options.Source.{Source}
+use Rattle.mc_options.specs.{declared.options.FlashOptions.{FlashOptions}, declared.options.Source.{Source}}
 use Rattle.mc_options.specs.declared.options.Source.TheVariants as sources
 
 -- What reading gives for a path and a limit.

@@ -1,6 +1,5 @@
 -- Texts: those of lists, whose items stand between separators, and what a beginning of one is.
-use Rattle.std.specs.Io.KnownBytes.{Appends}
-use Rattle.std.specs.Prelude.{List, Option, [], codes, flat_map, take, ℕ, ◌++◌, ◌∷◌, ◌≡◌}
+use Rattle.std.specs.{Io.KnownBytes.{Appends}, Prelude.{List, Option, [], codes, flat_map, take, ℕ, ◌++◌, ◌∷◌, ◌≡◌}}
 
 -- Texts of lists: `-` where there is no item, else the items with a separator between them.
 

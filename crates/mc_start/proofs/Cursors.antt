@@ -1,18 +1,12 @@
 -- How the text of a cursor is taken apart.
 use Rattle.std.specs.Prelude.{◌≡◌, ◌≢◌, IsSomeAnd, ℕ, suc, ◌/◌, ◌%◌, ◌<◌, ◌≤◌, List, [], ◌∷◌, ◌++◌, length, slice_index, Option, Some, None, decimal, Result, Ok, Err, MatchResult, true, false, IfSome, is_err, refl}
-use Rattle.std.specs.Str.Parse.{ParsesUnsigned}
-use Rattle.std.proofs.Common.{append_assoc, arith, sym, ◌∙◌}
-use Rattle.std.proofs.lemmas.Fmt.{parse-decimal}
-use Rattle.hex.specs.Hex.{IsBytes, decode_sized, encode_lower, encode_with, lower_digits}
-use Rattle.hex.specs.declared.error.FromHexError.{FromHexError}
+use Rattle.std.specs.{Str.Parse.{ParsesUnsigned}, Borrow.{Bor}}
+use Rattle.std.proofs.{Common.{append_assoc, arith, sym, ◌∙◌}, lemmas.Fmt.{parse-decimal}, lemmas.Str.Pattern.{IsSplitOnceResult}}
+use Rattle.hex.specs.{Hex.{IsBytes, decode_sized, encode_lower, encode_with, lower_digits}, declared.error.FromHexError.{FromHexError}}
 use Rattle.hex.proofs.HexLemmas.{length-encode_with, decode_of-encode_lower, decode_sized-twice}
 use Rattle.mc_trailer.specs.declared.tables.Rules.{Rules}
-use Rattle.mc_start.specs.Cursor.{IsStartField, IsCursor}
-use Rattle.mc_start.specs.declared.cursor.Cursor.{Cursor}
-use Rattle.mc_start.specs.declared.cursor_fields.StartField.{StartField}
+use Rattle.mc_start.specs.{Cursor.{IsStartField, IsCursor}, declared.cursor.Cursor.{Cursor}, declared.cursor_fields.StartField.{StartField}}
 use Rattle.mc_output.specs.facts.Parting.{Lacks, parted, one_piece, one_part, no_part, lacks_decimal}
-use Rattle.std.specs.Borrow.{Bor}
-use Rattle.std.proofs.lemmas.Str.Pattern.{IsSplitOnceResult}
 
 -- Two fields of a text, and what follows them.
 pub two_fields : (text a rest b rest' a' b' : List ℕ) → text ≡ a ++ 58 ∷ rest → rest ≡ b ++ 58 ∷ rest' → a ≡ a' → b ≡ b' → text ≡ (a' ++ (58 ∷ (b' ++ (58 ∷ [])))) ++ rest'

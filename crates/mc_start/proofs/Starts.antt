@@ -1,24 +1,12 @@
 -- The images of a start, the boot before a revert, and the room of a schedule.
-use Rattle.std.proofs.Common.{ap, arith, sym, ◌∙◌}
-use Rattle.std.proofs.lemmas.List.{drop-drop, drop-replicate, drop-set-lt, length-take-le}
+use Rattle.std.proofs.{Common.{ap, arith, sym, ◌∙◌}, lemmas.List.{drop-drop, drop-replicate, drop-set-lt, length-take-le}}
 use Rattle.std.specs.Prelude.{Bool, List, None, Option, Some, [], drop, length, refl, replicate, slice_set, take, ℕ, ◌+◌, ◌-◌, ◌<◌, ◌≡◌, ◌≤◌}
-use Rattle.mc_boot.specs.Boot.{HasCome, Progress, left_of}
-use Rattle.mc_boot.specs.Outcome.{left_by}
-use Rattle.mc_boot.specs.Plan.{identity_of, image_size, plain, power_on, powered}
-use Rattle.mc_boot.specs.declared.image.ImageId.{ImageId}
-use Rattle.mc_boot.specs.declared.kind.Kind.{Kind}
-use Rattle.mc_boot.specs.facts.Run.{come_left}
-use Rattle.mc_boot.specs.facts.Sizes.{size_read}
-use Rattle.mc_flash.specs.Flash.{Content}
-use Rattle.mc_flash.specs.Geometry.{Geometry}
-use Rattle.mc_flash.specs.Usage.{Allows, Loads, Seen, Usage, most_operations, most_saved}
-use Rattle.mc_flash.specs.inner.Room.{zeros_after}
-use Rattle.mc_image.specs.Image.{Begins, Image, image_in, image_text}
-use Rattle.mc_image.specs.Valid.{Identity, first_fault, id_of, image_fault, ◌<+>◌}
-use Rattle.mc_image.specs.declared.error.ImageError.{ImageError}
-use Rattle.mc_image.specs.facts.Valid.{prefix_within}
-use Rattle.mc_start.specs.Start.{in_order, named_ids}
-use Rattle.mc_start.specs.facts.Room.{limits_are}
+use Rattle.mc_boot.specs.{Boot.{HasCome, Progress, left_of}, Outcome.{left_by}, Plan.{identity_of, image_size, plain, power_on, powered}}
+use Rattle.mc_boot.specs.{declared.image.ImageId.{ImageId}, declared.kind.Kind.{Kind}, facts.Run.{come_left}, facts.Sizes.{size_read}}
+use Rattle.mc_flash.specs.{Flash.{Content}, Geometry.{Geometry}, Usage.{Allows, Loads, Seen, Usage, most_operations, most_saved}, inner.Room.{zeros_after}}
+use Rattle.mc_image.specs.{Image.{Begins, Image, image_in, image_text}, Valid.{Identity, first_fault, id_of, image_fault, ◌<+>◌}}
+use Rattle.mc_image.specs.{declared.error.ImageError.{ImageError}, facts.Valid.{prefix_within}}
+use Rattle.mc_start.specs.{Start.{in_order, named_ids}, facts.Room.{limits_are}}
 use Rattle.mc_boot.specs.declared.kind.Kind.TheVariants as kinds
 
 -- The size of the valid image that some bytes begin with.

@@ -1,16 +1,11 @@
 -- What the texts of cursors are made of: fields with a colon after each.
-use Rattle.std.specs.Borrow.{Bor}
-use Rattle.std.specs.Prelude.{Err, IsSomeAnd, List, Ok, Option, Result, codes, decimal, length, ℕ, ◌++◌, ◌≡◌, ◌≤◌}
+use Rattle.std.specs.{Borrow.{Bor}, Prelude.{Err, IsSomeAnd, List, Ok, Option, Result, codes, decimal, length, ℕ, ◌++◌, ◌≡◌, ◌≤◌}}
 use Rattle.hex.specs.Hex.{IsBytes, encode_lower}
 use Rattle.mc_boot.specs.Plan.{PowerOn}
-use Rattle.mc_flash.specs.Flash.{grain_text}
-use Rattle.mc_flash.specs.declared.flash.Grain.{Grain}
-use Rattle.mc_start.specs.Start.{IsSchedule, schedule_text, start_digest}
-use Rattle.mc_start.specs.declared.cursor.Cursor.{Cursor}
-use Rattle.mc_start.specs.declared.cursor.CursorError.{CursorError}
+use Rattle.mc_flash.specs.{Flash.{grain_text}, declared.flash.Grain.{Grain}}
+use Rattle.mc_start.specs.{Start.{IsSchedule, schedule_text, start_digest}, declared.cursor.Cursor.{Cursor}, declared.cursor.CursorError.{CursorError}}
 use Rattle.mc_start.specs.declared.cursor_fields.StartField.{StartField}
-use Rattle.mc_trailer.specs.Tables.{profile_text}
-use Rattle.mc_trailer.specs.declared.tables.Profile.{Profile}
+use Rattle.mc_trailer.specs.{Tables.{profile_text}, declared.tables.Profile.{Profile}}
 use Rattle.mc_flash.specs.declared.flash.Grain.TheVariants as grains
 use Rattle.mc_trailer.specs.declared.tables.Profile.TheVariants as profiles
 

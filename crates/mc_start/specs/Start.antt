@@ -1,17 +1,11 @@
 -- Starts of an exploration, what is refused of them, and the texts of layouts and schedules (docs/MODEL.md, "Start flashes").
 use Rattle.std.specs.Prelude.{All, Err, IfSome, IsOk, List, None, Ok, Option, Result, Some, [], codes, decimal, drop, if◌then◌else◌, length, take, ℕ, ◌&&◌, ◌++◌, ◌+◌, ◌-◌, ◌<◌, ◌==◌, ◌^◌, ◌∷◌, ◌≡◌, ◌≤◌}
-use Rattle.mc_boot.specs.Plan.{PowerOn, identity_of, image_size, plain, power_on}
-use Rattle.mc_boot.specs.Restart.{named, other, start_flash}
-use Rattle.mc_boot.specs.declared.image.ImageId.{ImageId}
+use Rattle.mc_boot.specs.{Plan.{PowerOn, identity_of, image_size, plain, power_on}, Restart.{named, other, start_flash}, declared.image.ImageId.{ImageId}}
 use Rattle.mc_boot.specs.declared.kind.Kind.{Kind}
-use Rattle.mc_flash.specs.Flash.{Content, size_of}
-use Rattle.mc_flash.specs.Geometry.{Geometry, fits}
-use Rattle.mc_flash.specs.declared.op.Slot.TheVariants.{Primary, Secondary}
-use Rattle.mc_image.specs.Valid.{Identity, id_of, image_fault}
-use Rattle.mc_image.specs.declared.error.ImageError.{ImageError}
+use Rattle.mc_flash.specs.{Flash.{Content, size_of}, Geometry.{Geometry, fits}, declared.op.Slot.TheVariants.{Primary, Secondary}}
+use Rattle.mc_image.specs.{Valid.{Identity, id_of, image_fault}, declared.error.ImageError.{ImageError}}
 use Rattle.mc_output.specs.Text.{joined}
-use Rattle.mc_start.specs.declared.schedule.ScheduleError.{ScheduleError}
-use Rattle.mc_start.specs.declared.start.StartError.{StartError}
+use Rattle.mc_start.specs.{declared.schedule.ScheduleError.{ScheduleError}, declared.start.StartError.{StartError}}
 use Rattle.mc_trailer.specs.declared.tables.Rules.{Rules}
 use Rattle.sha2.specs.Sha256.{sha256}
 use Rattle.mc_start.specs.declared.start.StartError.TheVariants as errors

@@ -1,28 +1,17 @@
 -- The operation at which a boot is on its way, and the rows of a boot.
 use Rattle.std.specs.Prelude.{◌≡◌, ℕ, suc, ◌+◌, ◌<◌, ◌≤◌, ◌||◌, Bool, true, false, if◌then◌else◌, IfSome, List, [], ◌∷◌, ◌++◌, length, refl, take, drop, get_or, slice_get, Option, Some, None}
 use Rattle.std.specs.Io.KnownBytes.{Appends}
-use Rattle.std.proofs.Common.{arith, sym, ap, subst, append-nil, ◌∙◌}
-use Rattle.std.proofs.Math.ListN.{drop_of_length-le}
-use Rattle.std.proofs.Math.Nat.{min-le_left}
-use Rattle.std.proofs.Math.Seq.{drop-cons, get_or-append_seam}
-use Rattle.std.proofs.lemmas.List.{get_or-take, length-append, length-take, length-take-le, same_from_push}
+use Rattle.std.proofs.{Common.{arith, sym, ap, subst, append-nil, ◌∙◌}, Math.ListN.{drop_of_length-le}, Math.Nat.{min-le_left}}
+use Rattle.std.proofs.{Math.Seq.{drop-cons, get_or-append_seam}, lemmas.List.{get_or-take, length-append, length-take, length-take-le, same_from_push}}
 use Rattle.std.proofs.lemmas.Option.{get_or_from_slice_get, slice_get-get_or}
-use Rattle.mc_boot.specs.Boot.{HasCome, Progress}
-use Rattle.mc_boot.specs.Outcome.{Report, first_then, happening, ops_of, outcome_of, shown}
-use Rattle.mc_boot.specs.Plan.{PowerOn, again, plan}
+use Rattle.mc_boot.specs.{Boot.{HasCome, Progress}, Outcome.{Report, first_then, happening, ops_of, outcome_of, shown}, Plan.{PowerOn, again, plan}}
 use Rattle.mc_boot.specs.facts.Run.{come_count, come_ops, come_prefix}
-use Rattle.mc_explore.specs.inner.OneRound.{at_cut}
-use Rattle.mc_flash.specs.Flash.{Content, apply}
-use Rattle.mc_flash.specs.Geometry.{Geometry}
-use Rattle.mc_flash.specs.declared.op.Op.{Op}
-use Rattle.mc_output.specs.Text.{AppendsPrefix}
-use Rattle.mc_output.specs.facts.Prefixes.{IsOut, out_all, out_begun, out_more, out_prefix}
+use Rattle.mc_explore.specs.{inner.OneRound.{at_cut}, declared.one_round.OneRound.{OneRound}, facts.Children.{IsAtChild}}
+use Rattle.mc_flash.specs.{Flash.{Content, apply}, Geometry.{Geometry}, declared.op.Op.{Op}}
+use Rattle.mc_output.specs.{Text.{AppendsPrefix}, facts.Prefixes.{IsOut, out_all, out_begun, out_more, out_prefix}}
 use Rattle.mc_trace.specs.Picture.{Shown, boot_row, boot_rows, group_end, grouped_text, is_erase, row_of, rows_text, up_to_cut}
-use Rattle.mc_trace.specs.declared.picture_rows.Look.{Look}
-use Rattle.mc_trace.specs.declared.picture_rows.Row.{Row}
+use Rattle.mc_trace.specs.{declared.picture_rows.Look.{Look}, declared.picture_rows.Row.{Row}}
 use Rattle.mc_trace.specs.inner.Rows.{IsRowHere, IsRowOf, boot_at, length_to, model_of, row_shown}
-use Rattle.mc_explore.specs.declared.one_round.OneRound.{OneRound}
-use Rattle.mc_explore.specs.facts.Children.{IsAtChild}
 use Rattle.mc_walk.specs.Walks.{Walked}
 
 -- The first of the operations that happen is the first of all.

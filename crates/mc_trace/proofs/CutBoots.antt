@@ -2,19 +2,13 @@
 use Rattle.std.specs.Prelude.{◌≡◌, ℕ, zero, suc, ◌<◌, ◌≤◌, ◌⊎◌, Bool, true, false, List, [], ◌∷◌, ◌++◌, length, take, drop, slice_get, Option, Some, None, refl}
 use Rattle.std.specs.Io.KnownBytes.{Appends}
 use Rattle.std.proofs.Common.{arith, inl, inr, sym, ap, subst, append-nil, ◌∙◌}
-use Rattle.mc_flash.specs.Flash.{Content}
-use Rattle.mc_flash.specs.Geometry.{Geometry}
-use Rattle.mc_flash.specs.declared.op.Op.{Op}
-use Rattle.mc_output.specs.facts.Prefixes.{IsOut, out_all, out_begun, out_prefix, out_more}
-use Rattle.mc_output.specs.Text.{AppendsPrefix}
+use Rattle.mc_flash.specs.{Flash.{Content}, Geometry.{Geometry}, declared.op.Op.{Op}}
+use Rattle.mc_output.specs.{facts.Prefixes.{IsOut, out_all, out_begun, out_prefix, out_more}, Text.{AppendsPrefix}}
 use Rattle.mc_trailer.specs.declared.tables.SwapType.{SwapType}
-use Rattle.mc_boot.specs.Boot.{Progress, begun, HasCome}
-use Rattle.mc_boot.specs.Plan.{plan, PowerOn}
-use Rattle.mc_boot.specs.facts.Run.{come_at, come_count, come_prefix, come_ops}
+use Rattle.mc_boot.specs.{Boot.{Progress, begun, HasCome}, Plan.{plan, PowerOn}, facts.Run.{come_at, come_count, come_prefix, come_ops}}
 use Rattle.mc_boot.specs.Outcome.{happening, ops_of}
 use Rattle.mc_explore.specs.inner.OneRound.{at_cut, content_or}
-use Rattle.mc_trace.specs.declared.trace.Span.{Span}
-use Rattle.mc_trace.specs.Trace.{operation_lines, up_to, head_line, cut_line, cut_text, last_text}
+use Rattle.mc_trace.specs.{declared.trace.Span.{Span}, Trace.{operation_lines, up_to, head_line, cut_line, cut_text, last_text}}
 
 get_dropped : (ops : List Op) (n : ℕ) → slice_get (drop n ops) 0 ≡ slice_get ops n
 get_dropped [] zero = refl

@@ -1,18 +1,13 @@
 -- A page that is drawn.
 use Rattle.std.specs.Prelude.{Err, IfErr, List, Ok, OnErr, OnOk, Option, Result, ℕ, ◌≡◌, ◌⊎◌}
 use Rattle.std.proofs.Common.{ap, inr, refl}
-use Rattle.mc_boot.specs.Outcome.{Report}
-use Rattle.mc_boot.specs.Plan.{PowerOn}
-use Rattle.mc_explore.specs.Schedules.{CanOccur, IsReplayed}
-use Rattle.mc_explore.specs.declared.expectation.Expectation.{Expectation}
+use Rattle.mc_boot.specs.{Outcome.{Report}, Plan.{PowerOn}}
+use Rattle.mc_explore.specs.{Schedules.{CanOccur, IsReplayed}, declared.expectation.Expectation.{Expectation}}
 use Rattle.mc_flash.specs.Flash.{Content}
-use Rattle.mc_trace.specs.Picture.{BeginsPicture, Draws, IsPicture, IsVerdict, look_for, page_text}
-use Rattle.mc_trace.specs.Trace.{RefusesTrace}
+use Rattle.mc_trace.specs.{Picture.{BeginsPicture, Draws, IsPicture, IsVerdict, look_for, page_text}, Trace.{RefusesTrace}}
 use Rattle.mc_trace.specs.declared.error.TraceError.{TraceError}
 use Rattle.mc_trace.specs.declared.error.TraceError.TheVariants as errors
-use Rattle.mc_trace.specs.declared.picture.Verdict.{Verdict}
-use Rattle.mc_trace.specs.declared.picture_rows.Look.{Look}
-use Rattle.mc_trace.specs.inner.Boots.{WritesText}
+use Rattle.mc_trace.specs.{declared.picture.Verdict.{Verdict}, declared.picture_rows.Look.{Look}, inner.Boots.{WritesText}}
 use Rattle.mc_trace.proofs.Tracing.{no_refusal}
 
 module _ (e : Expectation) (start : PowerOn) (cuts : List ℕ) (look : Look) (v : Verdict) (is : IsVerdict e start v) (look_is : look ≡ look_for start.geometry e) (before after : Option (List ℕ)) where

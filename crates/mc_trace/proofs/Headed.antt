@@ -1,19 +1,13 @@
 -- The sections of the boots of a schedule.
 use Rattle.std.specs.Prelude.{List, None, Option, Some, [], codes, length, ℕ, ◌+◌, ◌++◌, ◌<◌, ◌∷◌, ◌≡◌}
 use Rattle.std.proofs.Common.{ap, ◌∙◌}
-use Rattle.mc_boot.specs.Outcome.{Report, ops_of, outcome_of}
-use Rattle.mc_boot.specs.Plan.{PowerOn, again, power_on}
-use Rattle.mc_explore.specs.Schedules.{CanOccur}
-use Rattle.mc_explore.specs.declared.one_round.OneRound.{OneRound}
-use Rattle.mc_explore.specs.facts.Children.{IsAtChild, there_too}
-use Rattle.mc_explore.specs.facts.Occurring.{allowed_occurs, occurs_allowed}
-use Rattle.mc_explore.specs.inner.OneRound.{at_cut, boots}
+use Rattle.mc_boot.specs.{Outcome.{Report, ops_of, outcome_of}, Plan.{PowerOn, again, power_on}}
+use Rattle.mc_explore.specs.{Schedules.{CanOccur}, declared.one_round.OneRound.{OneRound}, facts.Children.{IsAtChild, there_too}}
+use Rattle.mc_explore.specs.{facts.Occurring.{allowed_occurs, occurs_allowed}, inner.OneRound.{at_cut, boots}}
 use Rattle.mc_flash.specs.Flash.{Content}
-use Rattle.mc_trace.specs.Picture.{boot_rows, boot_section, end_of, end_text, heading_of, heading_text, sections_text}
-use Rattle.mc_trace.specs.declared.picture_rows.Look.{Look}
+use Rattle.mc_trace.specs.{Picture.{boot_rows, boot_section, end_of, end_text, heading_of, heading_text, sections_text}, declared.picture_rows.Look.{Look}}
 use Rattle.mc_trace.specs.inner.Rows.{boot_at, model_of}
-use Rattle.mc_tree.specs.Tree.{landed}
-use Rattle.mc_tree.specs.facts.Order.{landed-push}
+use Rattle.mc_tree.specs.{Tree.{landed}, facts.Order.{landed-push}}
 use Rattle.mc_walk.specs.Walks.{Walked, origin_of}
 
 module _ (look : Look) (start : Content) (boot : ℕ) (x : PowerOn) where

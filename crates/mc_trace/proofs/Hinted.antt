@@ -1,9 +1,7 @@
 -- Hints at sectors, and where status entries begin.
 use Rattle.std.specs.Prelude.{◌≡◌, ℕ, zero, suc, ◌+◌, ◌-◌, ◌<◌, false, List, [], ◌∷◌, ◌++◌, length, drop, get_or}
-use Rattle.std.proofs.Common.{arith, ap, append_assoc}
-use Rattle.std.proofs.lemmas.Bool.Decides.{nat_tests}
-use Rattle.mc_flash.specs.Geometry.{Geometry}
-use Rattle.mc_flash.specs.declared.op.Slot.{Slot}
+use Rattle.std.proofs.{Common.{arith, ap, append_assoc}, lemmas.Bool.Decides.{nat_tests}}
+use Rattle.mc_flash.specs.{Geometry.{Geometry}, declared.op.Slot.{Slot}}
 use Rattle.mc_trace.specs.Hints.{are_entries, entry_span, magic_text, magics_text}
 
 -- A byte that is of no status entry, and what stands before it, are not of them together.

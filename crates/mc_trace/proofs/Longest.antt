@@ -1,30 +1,17 @@
 -- No boot takes longer than the revert of the largest images.
-use Rattle.std.proofs.Common.{arith, length-append, ◌∙◌}
-use Rattle.std.proofs.Math.Nat.{mul-le-mul_right}
-use Rattle.std.proofs.lemmas.Bool.Decides.{nat_tests}
-use Rattle.std.proofs.lemmas.List.{length-drop, length-map}
-use Rattle.std.proofs.lemmas.List.FromFn.{length-map-range_with_len}
-use Rattle.std.proofs.lemmas.List.Sums.{sum_by-cons}
+use Rattle.std.proofs.{Common.{arith, length-append, ◌∙◌}, Math.Nat.{mul-le-mul_right}, lemmas.Bool.Decides.{nat_tests}, lemmas.List.{length-drop, length-map}}
+use Rattle.std.proofs.{lemmas.List.FromFn.{length-map-range_with_len}, lemmas.List.Sums.{sum_by-cons}}
 use Rattle.std.specs.Prelude.{Bool, List, None, Option, Some, [], cond, drop, false, if◌then◌else◌, is_none, length, map, nat_lt, refl, sum_by, true, ℕ, ◌*◌, ◌++◌, ◌+◌, ◌==◌, ◌||◌, ◌∷◌, ◌≡◌, ◌≤◌}
 use Rattle.mc_boot.specs.Outcome.{first_then, happening, ops_of}
 use Rattle.mc_boot.specs.Plan.{Plan, PowerOn, confirms, first_left, from_transfer, images_of, new_list, new_plan, new_swap, nothing, plan, plan_with}
 use Rattle.mc_boot.specs.Plan.{resumed_from, resumed_list, resumed_plan, resumed_swap, trailer_erase, trailer_erases, transfers}
-use Rattle.mc_boot.specs.declared.image.Images.{Images}
-use Rattle.mc_boot.specs.declared.transfer.Transfer.{Transfer}
-use Rattle.mc_flash.specs.Flash.{Content, apply}
-use Rattle.mc_flash.specs.Geometry.{Geometry, IsLayout, greatest_sectors, in_pieces, trailer_sectors}
-use Rattle.mc_flash.specs.declared.flash.Grain.{Grain}
-use Rattle.mc_flash.specs.declared.op.Op.{Op}
-use Rattle.mc_flash.specs.declared.op.Slot.TheVariants.{Primary, Secondary}
-use Rattle.mc_flash.specs.facts.Pieces.{pieces_layout}
+use Rattle.mc_boot.specs.{declared.image.Images.{Images}, declared.transfer.Transfer.{Transfer}}
+use Rattle.mc_flash.specs.{Flash.{Content, apply}, Geometry.{Geometry, IsLayout, greatest_sectors, in_pieces, trailer_sectors}, declared.flash.Grain.{Grain}}
+use Rattle.mc_flash.specs.{declared.op.Op.{Op}, declared.op.Slot.TheVariants.{Primary, Secondary}, facts.Pieces.{pieces_layout}}
 use Rattle.mc_trace.proofs.SwapWork.{Asks, begun_erasing_count, begun_in, erase_count, finished, renewed, target, transfer_count, transfer_units, whole}
-use Rattle.mc_trace.specs.Wear.{LongestLaw, erases, is_erase, units, units_of, whole_swap}
-use Rattle.mc_trace.specs.inner.Swaps.{fields_of, marking_units, trailers_of}
-use Rattle.mc_trailer.specs.Tables.{is_resumed, table_of}
-use Rattle.mc_trailer.specs.Trailer.{highest_entry, trailer_of}
-use Rattle.mc_trailer.specs.declared.tables.SwapType.{SwapType}
-use Rattle.mc_trailer.specs.declared.trailer.Flag.{Flag}
-use Rattle.mc_trailer.specs.declared.trailer.Trailer.{Trailer}
+use Rattle.mc_trace.specs.{Wear.{LongestLaw, erases, is_erase, units, units_of, whole_swap}, inner.Swaps.{fields_of, marking_units, trailers_of}}
+use Rattle.mc_trailer.specs.{Tables.{is_resumed, table_of}, Trailer.{highest_entry, trailer_of}, declared.tables.SwapType.{SwapType}}
+use Rattle.mc_trailer.specs.{declared.trailer.Flag.{Flag}, declared.trailer.Trailer.{Trailer}}
 use Rattle.mc_flash.specs.declared.flash.Grain.TheVariants as grains
 use Rattle.mc_trailer.specs.declared.tables.SwapType.TheVariants as kinds
 

@@ -2,21 +2,14 @@
 use Rattle.std.specs.Prelude.{◌≡◌, ℕ, zero, suc, ◌+◌, ◌-◌, ◌<◌, ◌≤◌, List, [], ◌∷◌, ◌++◌, take, slice_get, codes, Option, Some, None, IfSome, Result, Ok, Err, is_some, true, refl, OnOk, OnErr}
 use Rattle.std.specs.Io.KnownBytes.{Appends}
 use Rattle.std.proofs.Common.{arith, sym, ap, subst, append-nil, ◌∙◌}
-use Rattle.mc_flash.specs.facts.Done.{did, undefined}
-use Rattle.mc_flash.specs.Geometry.{Geometry}
-use Rattle.mc_flash.specs.Usage.{Seen}
-use Rattle.mc_flash.specs.declared.flash.FlashError.{FlashError}
+use Rattle.mc_flash.specs.{facts.Done.{did, undefined}, Geometry.{Geometry}, Usage.{Seen}, declared.flash.FlashError.{FlashError}}
 use Rattle.mc_flash.specs.declared.flash.FlashError.TheVariants as errors
 use Rattle.mc_flash.specs.declared.op.Op.{Op}
-use Rattle.mc_boot.specs.Boot.{Progress, StepsAlong, Steps, progress, CountsOn, left_of, GoesOn, goes_further}
-use Rattle.mc_boot.specs.declared.boot.Boot.{Boot}
-use Rattle.mc_output.specs.facts.Prefixes.{IsOut, out_prefix, out_more}
-use Rattle.mc_output.specs.Text.{AppendsPrefix}
-use Rattle.mc_trace.specs.inner.Boots.{CountsUpTo, GoesUpTo, WritesText}
-use Rattle.mc_trace.specs.declared.error.TraceError.{TraceError}
+use Rattle.mc_boot.specs.{Boot.{Progress, StepsAlong, Steps, progress, CountsOn, left_of, GoesOn, goes_further}, declared.boot.Boot.{Boot}}
+use Rattle.mc_output.specs.{facts.Prefixes.{IsOut, out_prefix, out_more}, Text.{AppendsPrefix}}
+use Rattle.mc_trace.specs.{inner.Boots.{CountsUpTo, GoesUpTo, WritesText}, declared.error.TraceError.{TraceError}}
 use Rattle.mc_trace.specs.declared.error.TraceError.TheVariants as traces
-use Rattle.mc_trace.specs.Trace.{numbered_text, operation_lines, first_operation_lines, shown, up_to}
-use Rattle.mc_trace.specs.declared.trace.Span.{Span}
+use Rattle.mc_trace.specs.{Trace.{numbered_text, operation_lines, first_operation_lines, shown, up_to}, declared.trace.Span.{Span}}
 
 -- What is still to be written of a boot that has come to p.
 abbrev pub left_to_write : Span → Option ℕ → Seen → Progress → List ℕ

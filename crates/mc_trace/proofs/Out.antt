@@ -1,10 +1,8 @@
 -- The bytes of both slots come out one slot after the other.
 use Rattle.std.proofs.Common.{append-nil, subst, sym}
-use Rattle.std.specs.Io.KnownBytes.{Appends}
-use Rattle.std.specs.Prelude.{List, Option, [], ℕ, ◌++◌, ◌≡◌}
+use Rattle.std.specs.{Io.KnownBytes.{Appends}, Prelude.{List, Option, [], ℕ, ◌++◌, ◌≡◌}}
 use Rattle.mc_flash.specs.Flash.{Content}
-use Rattle.mc_output.specs.Text.{AppendsPrefix}
-use Rattle.mc_output.specs.facts.Prefixes.{IsOut, out_all, out_begun, out_prefix, out_more}
+use Rattle.mc_output.specs.{Text.{AppendsPrefix}, facts.Prefixes.{IsOut, out_all, out_begun, out_prefix, out_more}}
 use Rattle.mc_trace.specs.Sectors.{slots_bytes}
 
 module _ (c : Content) (before one : Option (List ℕ)) where

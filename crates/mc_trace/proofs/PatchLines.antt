@@ -1,15 +1,10 @@
 -- The lines of a patch, and the digits of bytes, one after another.
 use Rattle.std.specs.Prelude.{◌≡◌, ℕ, ◌+◌, ◌-◌, ◌/◌, ◌%◌, ◌<◌, Bool, true, false, if◌then◌else◌, List, [], ◌∷◌, ◌++◌, bytes_eq, length, take, drop, slice_index, refl}
 use Rattle.hex.specs.Hex.{encode_lower, encode_with, lower_digits}
-use Rattle.std.proofs.Common.{arith, sym, ap, ◌∙◌, append-nil, take-append-drop}
-use Rattle.std.proofs.lemmas.List.{nil_from_length}
-use Rattle.std.proofs.lemmas.List.Concat.{flat_map-append}
-use Rattle.mc_flash.specs.Flash.{Content, bytes_of, sectors_of}
-use Rattle.mc_flash.specs.Geometry.{Geometry}
-use Rattle.mc_flash.specs.declared.op.Slot.{Slot}
+use Rattle.std.proofs.{Common.{arith, sym, ap, ◌∙◌, append-nil, take-append-drop}, lemmas.List.{nil_from_length}, lemmas.List.Concat.{flat_map-append}}
+use Rattle.mc_flash.specs.{Flash.{Content, bytes_of, sectors_of}, Geometry.{Geometry}, declared.op.Slot.{Slot}}
 use Rattle.mc_flash.specs.declared.op.Slot.TheVariants.{Primary, Secondary}
-use Rattle.mc_trace.specs.Patch.{Change, change_of, changes_from, line_text, lines_text, patch_text, slot_changes, source_of}
-use Rattle.mc_trace.specs.Sectors.{sector_of}
+use Rattle.mc_trace.specs.{Patch.{Change, change_of, changes_from, line_text, lines_text, patch_text, slot_changes, source_of}, Sectors.{sector_of}}
 
 encode_with-append : (t a b : List ℕ) → encode_with t (a ++ b) ≡ encode_with t a ++ encode_with t b
 unfolding encode_with

@@ -1,17 +1,11 @@
 -- The flash that a patch makes of the start's is the one that it was made of.
 use Rattle.std.specs.Prelude.{◌≡◌, ℕ, zero, suc, ◌+◌, ◌-◌, ◌*◌, ◌<◌, ◌≤◌, ◌&&◌, ◌==◌, Bool, true, false, if◌then◌else◌, List, [], ◌∷◌, ◌++◌, length, take, drop, replicate, Option, Some, None, bytes_eq, refl}
 use Rattle.std.specs.List.{between}
-use Rattle.std.proofs.Common.{arith, sym, ap, ◌∙◌, append_assoc, append-nil, take-add, take-append-drop}
-use Rattle.std.proofs.Math.Path.{ap₂}
-use Rattle.std.proofs.lemmas.Bool.{eqb-true}
-use Rattle.std.proofs.lemmas.List.{drop-drop, drop_all, drop_at, length-take, length-take-le, take_all, take_at}
-use Rattle.std.proofs.lemmas.List.Edits.{length-between}
+use Rattle.std.proofs.{Common.{arith, sym, ap, ◌∙◌, append_assoc, append-nil, take-add, take-append-drop}, Math.Path.{ap₂}, lemmas.Bool.{eqb-true}}
+use Rattle.std.proofs.{lemmas.List.{drop-drop, drop_all, drop_at, length-take, length-take-le, take_all, take_at}, lemmas.List.Edits.{length-between}}
 use Rattle.std.proofs.lemmas.Slice.Eq.{bytes_eq-Decides}
-use Rattle.mc_flash.specs.Flash.{Content, IsSized, bytes_of, is_blank, put, sectors_of, size_of, with_bytes}
-use Rattle.mc_flash.specs.Geometry.{Geometry}
-use Rattle.mc_flash.specs.declared.op.Slot.{Slot}
-use Rattle.mc_flash.specs.declared.op.Slot.TheVariants.{Primary, Secondary}
-use Rattle.mc_flash.specs.facts.Layouts.{sector_inside}
+use Rattle.mc_flash.specs.{Flash.{Content, IsSized, bytes_of, is_blank, put, sectors_of, size_of, with_bytes}, Geometry.{Geometry}, declared.op.Slot.{Slot}}
+use Rattle.mc_flash.specs.{declared.op.Slot.TheVariants.{Primary, Secondary}, facts.Layouts.{sector_inside}}
 use Rattle.mc_trace.specs.Patch.{Blank, Change, change_of, changed, changes, changes_from, held_or, patched, slot_changes, source_bytes, source_of, with_sector}
 use Rattle.mc_trace.specs.Sectors.{first_like, first_of, origin_of, sector_of}
 

@@ -1,11 +1,8 @@
 -- What a picture says of one sector, and of those after it.
 use Rattle.std.specs.Prelude.{◌≡◌, ℕ, suc, ◌+◌, ◌-◌, ◌<◌, ◌≤◌, true, false, List, [], ◌∷◌, ◌++◌, length, take, codes, bytes_eq, Some}
 use Rattle.std.proofs.Common.{arith, ap, append_assoc}
-use Rattle.mc_flash.specs.Flash.{Content}
-use Rattle.mc_flash.specs.Geometry.{Geometry}
-use Rattle.mc_flash.specs.declared.op.Slot.{Slot}
-use Rattle.mc_trace.specs.declared.cells.Words.{Words}
-use Rattle.mc_trace.specs.Sectors.{first_like, sector_of, sector_word, sector_words}
+use Rattle.mc_flash.specs.{Flash.{Content}, Geometry.{Geometry}, declared.op.Slot.{Slot}}
+use Rattle.mc_trace.specs.{declared.cells.Words.{Words}, Sectors.{first_like, sector_of, sector_word, sector_words}}
 
 one_more : (i n : ℕ) → i < n → n - i ≡ suc (n - (i + 1))
 one_more i n below = omega (arith, below)

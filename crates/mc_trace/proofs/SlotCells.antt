@@ -2,15 +2,10 @@
 use Rattle.std.specs.Prelude.{◌≡◌, ℕ, suc, ◌+◌, ◌-◌, ◌<◌, ◌≤◌, Bool, List, [], ◌++◌, Option, Result, Ok, Err, true, false, if◌then◌else◌}
 use Rattle.std.specs.Io.KnownBytes.{Appends}
 use Rattle.std.proofs.Common.{arith, sym, ap, subst, append-nil, ◌∙◌}
-use Rattle.mc_flash.specs.Flash.{Content, sectors_of}
-use Rattle.mc_flash.specs.Geometry.{Geometry}
-use Rattle.mc_flash.specs.declared.op.Slot.{Slot}
-use Rattle.mc_output.specs.Text.{AppendsPrefix}
-use Rattle.mc_output.specs.facts.Prefixes.{IsOut, out_all, out_begun, out_more, out_prefix}
+use Rattle.mc_flash.specs.{Flash.{Content, sectors_of}, Geometry.{Geometry}, declared.op.Slot.{Slot}}
+use Rattle.mc_output.specs.{Text.{AppendsPrefix}, facts.Prefixes.{IsOut, out_all, out_begun, out_more, out_prefix}}
 use Rattle.mc_trace.specs.Picture.{cell_at, cells_from, joins, next_run, one_more, run_before, run_of, run_text, runs_text, slot_cells}
-use Rattle.mc_trace.specs.declared.cells.Cell.{Cell}
-use Rattle.mc_trace.specs.declared.runs.Run.{Run}
-use Rattle.mc_trace.specs.inner.Boots.{WritesText}
+use Rattle.mc_trace.specs.{declared.cells.Cell.{Cell}, declared.runs.Run.{Run}, inner.Boots.{WritesText}}
 
 module _ (merges : Bool) (g : Geometry) (start : Content) (slot : Slot) (bytes : List ℕ) (target : Option ℕ) where
   abbrev n : ℕ

@@ -1,21 +1,12 @@
 -- How often the swap for a test erases each sector.
-use Rattle.std.proofs.Math.Nat.{zero-mul}
-use Rattle.std.proofs.Common.{ap, arith, inl, inr, sym, ◌∙◌}
-use Rattle.std.proofs.lemmas.Bool.{cases_eq}
+use Rattle.std.proofs.{Math.Nat.{zero-mul}, Common.{ap, arith, inl, inr, sym, ◌∙◌}, lemmas.Bool.{cases_eq}}
 use Rattle.std.specs.List.{range_with_len}
 use Rattle.std.specs.Prelude.{List, [], filter, flat_map, fold, if◌then◌else◌, map, max, min, refl, suc, zero, ℕ, ◌*◌, ◌+◌, ◌++◌, ◌-◌, ◌<◌, ◌==◌, ◌∷◌, ◌≡◌, ◌≤◌}
-use Rattle.mc_boot.specs.Life.{all_erases, erases}
-use Rattle.mc_boot.specs.Plan.{brought_in, moved_up, taken_out, trailer_erase, trailer_erases, transfers}
-use Rattle.mc_boot.specs.WholeSwap.{largest_swap}
+use Rattle.mc_boot.specs.{Life.{all_erases, erases}, Plan.{brought_in, moved_up, taken_out, trailer_erase, trailer_erases, transfers}, WholeSwap.{largest_swap}}
 use Rattle.mc_boot.specs.declared.transfer.Transfer.{Transfer}
-use Rattle.mc_flash.specs.Flash.{sectors_of}
-use Rattle.mc_flash.specs.Geometry.{Geometry, IsLayout, greatest_sectors, trailer_bytes, trailer_sectors}
-use Rattle.mc_flash.specs.declared.flash.Grain.{Grain}
-use Rattle.mc_flash.specs.declared.op.Op.{Op}
-use Rattle.mc_flash.specs.declared.op.Op.TheVariants.{Copy, Erase, Program}
-use Rattle.mc_flash.specs.declared.op.Slot.{Slot}
-use Rattle.mc_flash.specs.declared.op.Slot.TheVariants.{Primary, Secondary}
-use Rattle.mc_flash.specs.facts.Layouts.{data_sectors, trailer_covered, trailer_leaves_one}
+use Rattle.mc_flash.specs.{Flash.{sectors_of}, Geometry.{Geometry, IsLayout, greatest_sectors, trailer_bytes, trailer_sectors}, declared.flash.Grain.{Grain}}
+use Rattle.mc_flash.specs.{declared.op.Op.{Op}, declared.op.Op.TheVariants.{Copy, Erase, Program}, declared.op.Slot.{Slot}}
+use Rattle.mc_flash.specs.{declared.op.Slot.TheVariants.{Primary, Secondary}, facts.Layouts.{data_sectors, trailer_covered, trailer_leaves_one}}
 use Rattle.mc_trace.proofs.SwapWork.{target, whole}
 use Rattle.mc_trace.specs.Wear.{is_erase, most_data_erases, most_trailer_erases}
 use Rattle.mc_trailer.specs.declared.tables.SwapType.TheVariants as kinds

@@ -1,32 +1,19 @@
 -- What the lists of a boot ask of the flash, section by section: their erases, and how many units they write.
-use Rattle.std.proofs.Common.{ap, append-nil, arith, length-append, sym, ◌∙◌}
-use Rattle.std.proofs.lemmas.List.{length-map}
+use Rattle.std.proofs.{Common.{ap, append-nil, arith, length-append, sym, ◌∙◌}, lemmas.List.{length-map}}
 use Rattle.std.proofs.Math.Nat.{div-mul-le_self, div_self, dvd_of_mod-eq-zero, mul-div_assoc, mul-le-mul_left, mul-le-mul_right}
-use Rattle.std.proofs.lemmas.List.Edits.{length-between}
-use Rattle.std.proofs.lemmas.List.Elements.{filter-append}
-use Rattle.std.proofs.lemmas.List.FromFn.{length-map-range_with_len, length-range_with_len}
-use Rattle.std.proofs.lemmas.List.Sums.{length-filter, sum_by-append}
+use Rattle.std.proofs.{lemmas.List.Edits.{length-between}, lemmas.List.Elements.{filter-append}}
+use Rattle.std.proofs.{lemmas.List.FromFn.{length-map-range_with_len, length-range_with_len}, lemmas.List.Sums.{length-filter, sum_by-append}}
 use Rattle.std.specs.List.{between, range_with_len}
 use Rattle.std.specs.Prelude.{Bool, List, [], drop, false, filter, flat_map, if◌then◌else◌, length, map, max, refl, suc, true, zero, ℕ, ◌*◌, ◌++◌, ◌+◌, ◌-◌, ◌/◌, ◌<◌, ◌∷◌, ◌≡◌, ◌≤◌}
 use Rattle.mc_boot.specs.Plan.{brought_in, closing, copy_of, copy_done_write, entry_of, from_transfer, image_ok_write, info_write, is_test, marking, new_list}
 use Rattle.mc_boot.specs.Plan.{opening_writes, piece, preparation_writes, resumed_list, steps, swap_list, taken_out, trailer_erases, transfers, write}
 use Rattle.mc_boot.specs.declared.transfer.Transfer.{Transfer}
-use Rattle.mc_flash.specs.Flash.{sectors_of}
-use Rattle.mc_flash.specs.Geometry.{Geometry, IsLayout, greatest_sectors, in_pieces, trailer_sectors}
-use Rattle.mc_flash.specs.Largest.{largest_image}
-use Rattle.mc_flash.specs.facts.Pieces.{pieces_layout}
-use Rattle.mc_flash.specs.facts.Usage.{few_pieces, few_sectors, few_units}
-use Rattle.mc_flash.specs.declared.flash.Grain.{Grain}
-use Rattle.mc_flash.specs.declared.op.Op.{Op}
-use Rattle.mc_flash.specs.declared.op.Op.TheVariants.{Erase, Program}
-use Rattle.mc_flash.specs.declared.op.Slot.{Slot}
-use Rattle.mc_flash.specs.declared.op.Slot.TheVariants.{Primary, Secondary}
+use Rattle.mc_flash.specs.{Flash.{sectors_of}, Geometry.{Geometry, IsLayout, greatest_sectors, in_pieces, trailer_sectors}, Largest.{largest_image}}
+use Rattle.mc_flash.specs.{facts.Pieces.{pieces_layout}, facts.Usage.{few_pieces, few_sectors, few_units}, declared.flash.Grain.{Grain}, declared.op.Op.{Op}}
+use Rattle.mc_flash.specs.{declared.op.Op.TheVariants.{Erase, Program}, declared.op.Slot.{Slot}, declared.op.Slot.TheVariants.{Primary, Secondary}}
 use Rattle.mc_flash.specs.facts.Layouts.{chunks_cover, small_unit}
-use Rattle.mc_trace.specs.inner.Swaps.{fields_of, marking_units, trailers_of}
-use Rattle.mc_trace.specs.Wear.{erases, is_erase, units, units_of, whole_swap}
-use Rattle.mc_trailer.specs.Trailer.{magic_bytes, one_unit, place, size_bytes}
-use Rattle.mc_trailer.specs.declared.places.Field.{Field}
-use Rattle.mc_trailer.specs.declared.tables.SwapType.{SwapType}
+use Rattle.mc_trace.specs.{inner.Swaps.{fields_of, marking_units, trailers_of}, Wear.{erases, is_erase, units, units_of, whole_swap}}
+use Rattle.mc_trailer.specs.{Trailer.{magic_bytes, one_unit, place, size_bytes}, declared.places.Field.{Field}, declared.tables.SwapType.{SwapType}}
 use Rattle.mc_trailer.specs.facts.Places.{one_unit_len, size_bytes_len}
 use Rattle.mc_flash.specs.declared.flash.Grain.TheVariants as grains
 use Rattle.mc_trailer.specs.declared.places.Field.TheVariants as field

@@ -1,21 +1,16 @@
 -- Boots that are traced one after another.
 use Rattle.std.specs.Prelude.{◌≡◌, ℕ, suc, ◌+◌, ◌*◌, ◌<◌, ◌≤◌, ◌⊎◌, nat_lt, Bool, true, false, if◌then◌else◌, List, [], ◌∷◌, ◌++◌, length, drop, Option, Some, None, option_and_then, refl}
 use Rattle.std.specs.Io.KnownBytes.{Appends}
-use Rattle.std.proofs.Common.{arith, inl, inr, sym, ap, subst, get_or, drop-cons, drop_of_length-le, append-nil, ◌∙◌}
-use Rattle.std.proofs.Math.Nat.{mul-le-mul_right}
+use Rattle.std.proofs.{Common.{arith, inl, inr, sym, ap, subst, get_or, drop-cons, drop_of_length-le, append-nil, ◌∙◌}, Math.Nat.{mul-le-mul_right}}
 use Rattle.std.proofs.lemmas.Bool.Decides.{nat_tests}
-use Rattle.mc_flash.specs.Flash.{Content}
-use Rattle.mc_flash.specs.Geometry.{Geometry}
+use Rattle.mc_flash.specs.{Flash.{Content}, Geometry.{Geometry}}
 use Rattle.mc_flash.specs.Usage.{Seen, LeaveRoom, plus, room_of, times, Counts, IsWithin, Limits, limits_for, most_operations, most_saved, no_counts}
 use Rattle.mc_trailer.specs.declared.tables.Rules.{Rules}
 use Rattle.mc_start.specs.facts.Room.{limits_are}
 use Rattle.mc_explore.specs.inner.OneRound.{most_of, at_cut, content_or}
-use Rattle.mc_output.specs.facts.Prefixes.{IsOut, out_all, out_begun, out_prefix, out_more}
-use Rattle.mc_output.specs.Text.{AppendsPrefix}
-use Rattle.mc_boot.specs.Outcome.{Report, outcome_of, outcome_text, after, at, ops_of}
-use Rattle.mc_boot.specs.Plan.{PowerOn, again, power_on, powered}
-use Rattle.mc_trace.specs.Trace.{RefusesTrace, boots_text, cut_text, last_text, trace_text}
-use Rattle.mc_trace.specs.declared.trace.Span.{Span}
+use Rattle.mc_output.specs.{facts.Prefixes.{IsOut, out_all, out_begun, out_prefix, out_more}, Text.{AppendsPrefix}}
+use Rattle.mc_boot.specs.{Outcome.{Report, outcome_of, outcome_text, after, at, ops_of}, Plan.{PowerOn, again, power_on, powered}}
+use Rattle.mc_trace.specs.{Trace.{RefusesTrace, boots_text, cut_text, last_text, trace_text}, declared.trace.Span.{Span}}
 use Rattle.mc_trace.specs.declared.error.TraceError.{TraceError}
 use Rattle.mc_trace.specs.declared.error.TraceError.TheVariants as errors
 

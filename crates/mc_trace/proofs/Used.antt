@@ -1,7 +1,6 @@
 -- How many bytes come before the blank ones at the end.
 use Rattle.std.specs.Prelude.{◌≡◌, ℕ, zero, suc, ◌<◌, ◌==◌, false, List, [], ◌∷◌, length, drop, get_or, refl}
-use Rattle.std.proofs.Common.{arith}
-use Rattle.std.proofs.lemmas.Bool.Decides.{nat_tests}
+use Rattle.std.proofs.{Common.{arith}, lemmas.Bool.Decides.{nat_tests}}
 use Rattle.mc_trace.specs.Sectors.{used}
 
 first_used : (b : ℕ) (bs : List ℕ) → (b ≡ 255 → ⊥) → used bs ≡ 0 → used (b ∷ bs) ≡ 1

@@ -1,10 +1,7 @@
 -- Texts that are written one after another.
-use Rattle.std.specs.Prelude.{ℕ, List, [], ◌++◌, Option, Result, Ok, Err}
-use Rattle.std.specs.Io.KnownBytes.{Appends}
-use Rattle.std.proofs.Common.{append-nil}
-use Rattle.std.proofs.KnownBytes.{Appends-trans}
-use Rattle.mc_output.specs.Text.{AppendsPrefix}
-use Rattle.mc_output.specs.facts.Prefixes.{out_begun, out_more, out_prefix}
+use Rattle.std.specs.{Prelude.{ℕ, List, [], ◌++◌, Option, Result, Ok, Err}, Io.KnownBytes.{Appends}}
+use Rattle.std.proofs.{Common.{append-nil}, KnownBytes.{Appends-trans}}
+use Rattle.mc_output.specs.{Text.{AppendsPrefix}, facts.Prefixes.{out_begun, out_more, out_prefix}}
 use Rattle.mc_trace.specs.inner.Boots.{WritesText}
 
 -- A beginning of the first is one of both.

@@ -1,13 +1,10 @@
 -- Trailers that would stand right under other numbers: this project's own hints (docs/FORMAT.md, "Inspection").
 use Rattle.std.specs.List.{ends_with}
 use Rattle.std.specs.Prelude.{Bool, List, [], is_none, codes, decimal, if◌then◌else◌, length, suc, take, true, zero, ℕ, ◌%◌, ◌&&◌, ◌*◌, ◌++◌, ◌+◌, ◌-◌, ◌/◌, ◌==◌, ◌||◌, ◌∷◌}
-use Rattle.mc_flash.specs.Flash.{slot_text}
-use Rattle.mc_flash.specs.Geometry.{Geometry, of_numbers, refusal_of}
-use Rattle.mc_flash.specs.declared.op.Slot.{Slot}
+use Rattle.mc_flash.specs.{Flash.{slot_text}, Geometry.{Geometry, of_numbers, refusal_of}, declared.op.Slot.{Slot}}
 use Rattle.mc_flash.specs.declared.op.Slot.TheVariants.{Primary, Secondary}
 use Rattle.mc_trace.specs.Sectors.{sector_of}
-use Rattle.mc_trailer.specs.Trailer.{magic_bytes, place}
-use Rattle.mc_trailer.specs.declared.places.Field.TheVariants.{SwapSize}
+use Rattle.mc_trailer.specs.{Trailer.{magic_bytes, place}, declared.places.Field.TheVariants.{SwapSize}}
 
 -- That a sector of a slot with these bytes ends in a good magic, if it does.
 abbrev pub magic_text : Geometry → Slot → List ℕ → ℕ → List ℕ

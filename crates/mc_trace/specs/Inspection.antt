@@ -1,22 +1,13 @@
 -- A flash explained: this project's own text (docs/FORMAT.md, "Inspection").
 use Rattle.std.specs.Prelude.{List, None, Option, Some, codes, if◌then◌else◌, slice_get, ℕ, ◌++◌}
-use Rattle.mc_boot.specs.Outcome.{identity_text, outcome_of}
-use Rattle.mc_boot.specs.Plan.{PowerOn, plan}
-use Rattle.mc_flash.specs.Flash.{Content, slot_text}
-use Rattle.mc_flash.specs.Geometry.{Geometry}
-use Rattle.mc_flash.specs.declared.op.Op.{Op}
-use Rattle.mc_flash.specs.declared.op.Slot.{Slot}
+use Rattle.mc_boot.specs.{Outcome.{identity_text, outcome_of}, Plan.{PowerOn, plan}}
+use Rattle.mc_flash.specs.{Flash.{Content, slot_text}, Geometry.{Geometry}, declared.op.Op.{Op}, declared.op.Slot.{Slot}}
 use Rattle.mc_flash.specs.declared.op.Slot.TheVariants.{Primary, Secondary}
-use Rattle.mc_image.specs.Valid.{Identity, id_of, image_fault}
-use Rattle.mc_image.specs.declared.error.ImageError.{ImageError}
+use Rattle.mc_image.specs.{Valid.{Identity, id_of, image_fault}, declared.error.ImageError.{ImageError}}
 use Rattle.mc_image.specs.declared.error.ImageError.TheVariants as faults
-use Rattle.mc_trace.specs.Hints.{hints_text}
-use Rattle.mc_trace.specs.Sectors.{line_of}
-use Rattle.mc_trace.specs.Trace.{operation_text, outcome_lines}
+use Rattle.mc_trace.specs.{Hints.{hints_text}, Sectors.{line_of}, Trace.{operation_text, outcome_lines}}
 use Rattle.mc_trace.specs.declared.cells.Words.TheVariants as words
-use Rattle.mc_trailer.specs.Tables.{resumes, swap_type, trailer_text, type_text}
-use Rattle.mc_trailer.specs.Trailer.{trailer_of}
-use Rattle.mc_trailer.specs.declared.tables.Profile.{Profile}
+use Rattle.mc_trailer.specs.{Tables.{resumes, swap_type, trailer_text, type_text}, Trailer.{trailer_of}, declared.tables.Profile.{Profile}}
 use Rattle.mc_trailer.specs.declared.trailer.Trailer.{Trailer}
 
 -- Both trailers, whether a boot goes on with a swap that was cut, and the type that the tables give.

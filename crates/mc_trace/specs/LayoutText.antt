@@ -1,21 +1,13 @@
 -- A layout in numbers: this project's own text.
 use Rattle.std.specs.Prelude.{ℕ, ◌-◌, ◌*◌, List, ◌++◌, Option, codes, decimal}
-use Rattle.mc_flash.specs.Geometry.{Geometry, trailer_bytes, trailer_sectors, greatest_sectors}
-use Rattle.mc_flash.specs.Largest.{largest_image}
-use Rattle.mc_flash.specs.Usage.{most_operations}
-use Rattle.mc_flash.specs.Flash.{grain_text, slot_text}
-use Rattle.mc_flash.specs.declared.flash.Grain.{Grain}
+use Rattle.mc_flash.specs.{Geometry.{Geometry, trailer_bytes, trailer_sectors, greatest_sectors}, Largest.{largest_image}, Usage.{most_operations}}
+use Rattle.mc_flash.specs.{Flash.{grain_text, slot_text}, declared.flash.Grain.{Grain}}
 use Rattle.mc_flash.specs.declared.flash.Grain.TheVariants as grains
-use Rattle.mc_flash.specs.declared.op.Slot.{Slot}
-use Rattle.mc_flash.specs.declared.op.Slot.TheVariants.{Primary, Secondary}
-use Rattle.mc_trailer.specs.Trailer.{place, entry_place}
-use Rattle.mc_trailer.specs.declared.places.Field.{Field}
+use Rattle.mc_flash.specs.{declared.op.Slot.{Slot}, declared.op.Slot.TheVariants.{Primary, Secondary}}
+use Rattle.mc_trailer.specs.{Trailer.{place, entry_place}, declared.places.Field.{Field}}
 use Rattle.mc_trailer.specs.declared.places.Field.TheVariants as fields
 use Rattle.mc_boot.specs.WholeSwap.{swap_operations}
-use Rattle.mc_trace.specs.Trace.{part_text}
-use Rattle.mc_trace.specs.Wear.{wear_text}
-use Rattle.mc_trace.specs.declared.layout.PartLine.{PartLine}
-use Rattle.mc_trace.specs.declared.wear.Times.{Times}
+use Rattle.mc_trace.specs.{Trace.{part_text}, Wear.{wear_text}, declared.layout.PartLine.{PartLine}, declared.wear.Times.{Times}}
 use Rattle.mc_trace.specs.declared.operation.Part.TheVariants as parts
 
 -- What a trailer takes of a slot, and the most that an image may have, in sectors and in bytes.

@@ -1,9 +1,7 @@
 -- A flash as a patch of the flash of a start: a line for each sector that is not what it was.
 use Rattle.std.specs.Prelude.{List, None, Option, Some, [], bytes_eq, codes, decimal, flat_map, if◌then◌else◌, replicate, suc, zero, ℕ, ◌*◌, ◌++◌, ◌+◌, ◌∷◌}
 use Rattle.hex.specs.Hex.{encode_lower}
-use Rattle.mc_flash.specs.Flash.{Content, bytes_of, is_blank, put, sectors_of, slot_text, with_bytes}
-use Rattle.mc_flash.specs.Geometry.{Geometry}
-use Rattle.mc_flash.specs.declared.op.Slot.{Slot}
+use Rattle.mc_flash.specs.{Flash.{Content, bytes_of, is_blank, put, sectors_of, slot_text, with_bytes}, Geometry.{Geometry}, declared.op.Slot.{Slot}}
 use Rattle.mc_flash.specs.declared.op.Slot.TheVariants.{Primary, Secondary}
 use Rattle.mc_trace.specs.Sectors.{origin_of, sector_of}
 

@@ -1,27 +1,16 @@
 -- The boots of a schedule as a page that a browser shows: this project's own text (docs/FORMAT.md, "Pictures").
 use Rattle.std.specs.Prelude.{◌≡◌, ℕ, is_none, zero, suc, ◌+◌, ◌-◌, ◌/◌, ◌==◌, ◌&&◌, ◌||◌, Bool, true, false, not, nat_lt, if◌then◌else◌, List, [], ◌∷◌, ◌++◌, Option, Some, None, codes, decimal, take}
-use Rattle.mc_flash.specs.Flash.{Content, sectors_of}
-use Rattle.mc_flash.specs.Geometry.{Geometry}
-use Rattle.mc_flash.specs.declared.op.Op.{Op}
+use Rattle.mc_flash.specs.{Flash.{Content, sectors_of}, Geometry.{Geometry}, declared.op.Op.{Op}}
 use Rattle.mc_flash.specs.declared.op.Op.TheVariants as ops
-use Rattle.mc_flash.specs.declared.op.Slot.{Slot}
-use Rattle.mc_flash.specs.declared.op.Slot.TheVariants.{Primary, Secondary}
-use Rattle.mc_boot.specs.Outcome.{Report, ops_of, outcome_of}
-use Rattle.mc_boot.specs.Plan.{PowerOn, again}
-use Rattle.mc_explore.specs.inner.OneRound.{at_cut}
-use Rattle.mc_explore.specs.Census.{IsCensus, census_text}
-use Rattle.mc_explore.specs.Right.{AreRights, Rights, is_right, rights_text}
-use Rattle.mc_explore.specs.Rows.{outcome_text, slots_text, subject}
-use Rattle.mc_explore.specs.declared.expectation.Expectation.{Expectation}
-use Rattle.mc_trace.specs.Trace.{operation_text}
-use Rattle.mc_trace.specs.declared.picture_rows.Look.{Look}
-use Rattle.mc_trace.specs.Sectors.{cell_of, cell_word, letter, sector_of}
+use Rattle.mc_flash.specs.{declared.op.Slot.{Slot}, declared.op.Slot.TheVariants.{Primary, Secondary}}
+use Rattle.mc_boot.specs.{Outcome.{Report, ops_of, outcome_of}, Plan.{PowerOn, again}}
+use Rattle.mc_explore.specs.{inner.OneRound.{at_cut}, Census.{IsCensus, census_text}, Right.{AreRights, Rights, is_right, rights_text}}
+use Rattle.mc_explore.specs.{Rows.{outcome_text, slots_text, subject}, declared.expectation.Expectation.{Expectation}}
+use Rattle.mc_trace.specs.{Trace.{operation_text}, declared.picture_rows.Look.{Look}, Sectors.{cell_of, cell_word, letter, sector_of}}
 use Rattle.mc_trace.specs.declared.cells.Cell.{Cell}
 use Rattle.mc_trace.specs.declared.cells.Cell.TheVariants as cells
 use Rattle.mc_trace.specs.declared.cells.Words.TheVariants as words
-use Rattle.mc_trace.specs.declared.page.TheConstants.{HEAD, LEGEND}
-use Rattle.mc_trace.specs.declared.picture.Verdict.{Verdict}
-use Rattle.mc_trace.specs.declared.runs.Run.{Run}
+use Rattle.mc_trace.specs.{declared.page.TheConstants.{HEAD, LEGEND}, declared.picture.Verdict.{Verdict}, declared.runs.Run.{Run}}
 use Rattle.mc_boot.specs.Outcome as outcomes
 use Rattle.mc_output.specs.Text.{AppendsPrefix}
 use Rattle.mc_start.specs.Start.{schedule_text}

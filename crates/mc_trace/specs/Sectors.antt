@@ -1,13 +1,9 @@
 -- A flash as bytes: the primary slot, and then the secondary.
-use Rattle.std.specs.Io.KnownBytes.{Appends, Keeps}
-use Rattle.std.specs.List.{between}
+use Rattle.std.specs.{Io.KnownBytes.{Appends, Keeps}, List.{between}}
 use Rattle.std.specs.Prelude.{Err, List, None, Ok, Option, Result, Some, [], bytes_eq, codes, decimal, if◌then◌else◌, length, nat_le, suc, take, zero, ℕ, ⊤, ◌&&◌, ◌*◌, ◌++◌, ◌+◌, ◌-◌, ◌==◌, ◌∷◌, ◌≡◌}
-use Rattle.mc_boot.specs.Outcome.{after, left_by}
-use Rattle.mc_boot.specs.Plan.{PowerOn, again}
+use Rattle.mc_boot.specs.{Outcome.{after, left_by}, Plan.{PowerOn, again}}
 use Rattle.mc_explore.specs.Schedules.{CannotOccurAt}
-use Rattle.mc_flash.specs.Flash.{Content, is_blank, sectors_of, slot_text}
-use Rattle.mc_flash.specs.Geometry.{Geometry, trailer_sectors}
-use Rattle.mc_flash.specs.declared.op.Slot.{Slot}
+use Rattle.mc_flash.specs.{Flash.{Content, is_blank, sectors_of, slot_text}, Geometry.{Geometry, trailer_sectors}, declared.op.Slot.{Slot}}
 use Rattle.mc_flash.specs.declared.op.Slot.TheVariants.{Primary, Secondary}
 use Rattle.mc_output.specs.Text.{AppendsPrefix}
 use Rattle.mc_trace.specs.declared.error.TraceError.{TraceError}

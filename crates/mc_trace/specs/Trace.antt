@@ -1,22 +1,12 @@
 -- Operations as they are printed: this project's own texts.
 use Rattle.std.specs.Prelude.{Bool, List, None, Option, Some, [], codes, decimal, if◌then◌else◌, nat_le, slice_get, take, ℕ, ⊤, ◌&&◌, ◌++◌, ◌+◌, ◌-◌, ◌/◌, ◌∷◌, ◌≡◌}
 use Rattle.hex.specs.Hex.{encode_lower}
-use Rattle.mc_boot.specs.Outcome.{Report, outcome_of, outcome_text}
-use Rattle.mc_boot.specs.Plan.{PowerOn, plan, power_on}
-use Rattle.mc_explore.specs.inner.OneRound.{at_cut}
-use Rattle.mc_explore.specs.Schedules.{CannotOccurAt}
-use Rattle.mc_explore.specs.declared.replays.ReplayError.{ReplayError}
-use Rattle.mc_flash.specs.Flash.{Content, apply, size_of, slot_text}
-use Rattle.mc_flash.specs.Geometry.{Geometry, trailer_bytes}
-use Rattle.mc_flash.specs.declared.op.Op.{Op}
-use Rattle.mc_flash.specs.declared.op.Slot.{Slot}
+use Rattle.mc_boot.specs.{Outcome.{Report, outcome_of, outcome_text}, Plan.{PowerOn, plan, power_on}}
+use Rattle.mc_explore.specs.{inner.OneRound.{at_cut}, Schedules.{CannotOccurAt}, declared.replays.ReplayError.{ReplayError}}
+use Rattle.mc_flash.specs.{Flash.{Content, apply, size_of, slot_text}, Geometry.{Geometry, trailer_bytes}, declared.op.Op.{Op}, declared.op.Slot.{Slot}}
 use Rattle.mc_flash.specs.declared.op.Slot.TheVariants.{Primary, Secondary}
-use Rattle.mc_trace.specs.declared.error.TraceError.{TraceError}
-use Rattle.mc_trace.specs.declared.operation.Part.{Part}
-use Rattle.mc_trace.specs.declared.trace.Span.{Span}
-use Rattle.mc_trailer.specs.Tables.{type_text}
-use Rattle.mc_trailer.specs.declared.tables.Rules.{Rules}
-use Rattle.mc_trailer.specs.declared.tables.SwapType.{SwapType}
+use Rattle.mc_trace.specs.{declared.error.TraceError.{TraceError}, declared.operation.Part.{Part}, declared.trace.Span.{Span}}
+use Rattle.mc_trailer.specs.{Tables.{type_text}, declared.tables.Rules.{Rules}, declared.tables.SwapType.{SwapType}}
 use Rattle.mc_trace.specs.declared.error.TraceError.TheVariants as errors
 use Rattle.mc_trailer.specs.declared.places.Field.TheVariants as fields
 use Rattle.mc_flash.specs.declared.op.Op.TheVariants as ops

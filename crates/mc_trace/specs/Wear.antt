@@ -1,17 +1,9 @@
 -- How often operations erase a sector, and how long they take: this project's own measures.
 use Rattle.std.specs.List.{range_with_len}
 use Rattle.std.specs.Prelude.{Bool, List, None, Option, Some, codes, count_by, decimal, false, fold, length, max, sum_by, true, ℕ, ◌*◌, ◌++◌, ◌+◌, ◌/◌, ◌≤◌}
-use Rattle.mc_boot.specs.Life.{all_erases}
-use Rattle.mc_boot.specs.Outcome.{ops_of}
-use Rattle.mc_boot.specs.Plan.{PowerOn, new_list}
-use Rattle.mc_boot.specs.WholeSwap.{largest_swap}
-use Rattle.mc_flash.specs.Geometry.{Geometry, IsLayout, greatest_sectors, in_pieces, trailer_sectors}
-use Rattle.mc_flash.specs.Largest.{largest_image}
-use Rattle.mc_flash.specs.facts.Layouts.{data_sectors}
-use Rattle.mc_flash.specs.declared.flash.Grain.{Grain}
-use Rattle.mc_flash.specs.declared.op.Op.{Op}
-use Rattle.mc_flash.specs.declared.op.Slot.{Slot}
-use Rattle.mc_flash.specs.declared.op.Slot.TheVariants.{Primary, Secondary}
+use Rattle.mc_boot.specs.{Life.{all_erases}, Outcome.{ops_of}, Plan.{PowerOn, new_list}, WholeSwap.{largest_swap}}
+use Rattle.mc_flash.specs.{Geometry.{Geometry, IsLayout, greatest_sectors, in_pieces, trailer_sectors}, Largest.{largest_image}, facts.Layouts.{data_sectors}}
+use Rattle.mc_flash.specs.{declared.flash.Grain.{Grain}, declared.op.Op.{Op}, declared.op.Slot.{Slot}, declared.op.Slot.TheVariants.{Primary, Secondary}}
 use Rattle.mc_trailer.specs.declared.tables.SwapType.{SwapType}
 use Rattle.mc_trace.specs.declared.wear.Times.{Times}
 use Rattle.mc_flash.specs.declared.flash.Grain.TheVariants as grains

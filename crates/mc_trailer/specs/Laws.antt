@@ -1,16 +1,11 @@
 -- What the laws of trailers say.
 use Rattle.std.specs.Prelude.{◌≡◌, ◌≢◌, ◌⊎◌, ◌↔◌, ℕ, ◌+◌, ◌*◌, ◌^◌, ◌<◌, ◌≤◌, true, false, List, length, Some}
-use Rattle.mc_flash.specs.Geometry.{Geometry, IsLayout}
-use Rattle.mc_flash.specs.Flash.{Content, IsSized, size_of}
-use Rattle.mc_flash.specs.facts.Changes.{Changed}
-use Rattle.mc_flash.specs.declared.op.Slot.{Slot}
+use Rattle.mc_flash.specs.{Geometry.{Geometry, IsLayout}, Flash.{Content, IsSized, size_of}, facts.Changes.{Changed}, declared.op.Slot.{Slot}}
 use Rattle.mc_flash.specs.declared.op.Slot.TheVariants.{Primary}
 use Rattle.mc_trailer.specs.Trailer.{highest_entry, is_written, one_unit, size_bytes, trailer_of, entry_place, magic_bytes, place, room}
-use Rattle.mc_trailer.specs.Tables.{Asks, asks_perm, asks_revert, asks_test, swap_type}
-use Rattle.mc_trailer.specs.declared.places.Field.{Field}
+use Rattle.mc_trailer.specs.{Tables.{Asks, asks_perm, asks_revert, asks_test, swap_type}, declared.places.Field.{Field}}
 use Rattle.mc_trailer.specs.declared.places.Field.TheVariants as field
-use Rattle.mc_trailer.specs.declared.tables.Profile.{Profile}
-use Rattle.mc_trailer.specs.declared.tables.SwapType.{SwapType}
+use Rattle.mc_trailer.specs.{declared.tables.Profile.{Profile}, declared.tables.SwapType.{SwapType}}
 use Rattle.mc_trailer.specs.declared.trailer.Flag.TheVariants as flags
 use Rattle.mc_trailer.specs.declared.trailer.Magic.TheVariants as magics
 use Rattle.mc_trailer.specs.declared.trailer.Trailer.{Trailer}

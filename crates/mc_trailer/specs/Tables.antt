@@ -3,15 +3,9 @@
 -- and the rule by which a boot goes on, are this project's own choice.
 use Rattle.std.specs.Prelude.{Bool, List, [], codes, decimal, false, if◌then◌else◌, not, true, ℕ, ◌&&◌, ◌++◌, ◌∷◌, ◌≡◌}
 use Rattle.hex.specs.Hex.{encode_lower}
-use Rattle.mc_flash.specs.Flash.{Content}
-use Rattle.mc_flash.specs.Geometry.{Geometry}
-use Rattle.mc_flash.specs.declared.op.Slot.TheVariants.{Primary, Secondary}
-use Rattle.mc_trailer.specs.Trailer.{trailer_of}
-use Rattle.mc_trailer.specs.declared.tables.Profile.{Profile}
-use Rattle.mc_trailer.specs.declared.tables.SwapType.{SwapType}
-use Rattle.mc_trailer.specs.declared.trailer.Flag.{Flag}
-use Rattle.mc_trailer.specs.declared.trailer.Magic.{Magic}
-use Rattle.mc_trailer.specs.declared.trailer.Trailer.{Trailer}
+use Rattle.mc_flash.specs.{Flash.{Content}, Geometry.{Geometry}, declared.op.Slot.TheVariants.{Primary, Secondary}}
+use Rattle.mc_trailer.specs.{Trailer.{trailer_of}, declared.tables.Profile.{Profile}, declared.tables.SwapType.{SwapType}, declared.trailer.Flag.{Flag}}
+use Rattle.mc_trailer.specs.{declared.trailer.Magic.{Magic}, declared.trailer.Trailer.{Trailer}}
 use Rattle.mc_trailer.specs.declared.trailer.Flag.TheVariants as flags
 use Rattle.mc_trailer.specs.declared.tables.SwapType.TheVariants as kinds
 use Rattle.mc_trailer.specs.declared.trailer.Magic.TheVariants as magics

@@ -1,10 +1,7 @@
 -- The order of schedules as a test.
-use Rattle.std.specs.Prelude.{◌≡◌, ◌↔◌, ℕ, ◌==◌, nat_lt, Bool, true, false, if◌then◌else◌, List, [], ◌∷◌, Some, refl}
-use Rattle.std.specs.Cmp.Lexicographic.{slice_partial_cmp}
+use Rattle.std.specs.{Prelude.{◌≡◌, ◌↔◌, ℕ, ◌==◌, nat_lt, Bool, true, false, if◌then◌else◌, List, [], ◌∷◌, Some, refl}, Cmp.Lexicographic.{slice_partial_cmp}}
 use Rattle.std.specs.Ordering.{nat_cmp, is_lt, is_some_and}
-use Rattle.std.proofs.Common.{arith, sym, ap, ◌∙◌, inl, inr}
-use Rattle.std.proofs.lemmas.Bool.{cases_eq, ltb-true, lt-ltb}
-use Rattle.std.proofs.lemmas.Bool.Decides.{nat_tests}
+use Rattle.std.proofs.{Common.{arith, sym, ap, ◌∙◌, inl, inr}, lemmas.Bool.{cases_eq, ltb-true, lt-ltb}, lemmas.Bool.Decides.{nat_tests}}
 use Rattle.std.proofs.lemmas.Cmp.{same_from_slice_cmp_tested}
 use Rattle.mc_tree.specs.Tree.{Precedes}
 

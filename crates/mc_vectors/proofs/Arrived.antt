@@ -1,24 +1,13 @@
 -- A walk that has come along a schedule, and goes to a child.
 use Rattle.std.specs.Prelude.{Bool, IfSome, None, Option, Some, false, is_some, take, true}
-use Rattle.std.proofs.Common.{List, ap, arith, length, refl, subst, sym, ℕ, ◌++◌, ◌+◌, ◌<◌, ◌∙◌, ◌≡◌, ◌≤◌}
-use Rattle.std.proofs.Math.Nat.{min-le_right}
-use Rattle.std.proofs.lemmas.List.{length-take}
-use Rattle.mc_boot.specs.Outcome.{after, ops_of}
-use Rattle.mc_boot.specs.Plan.{PowerOn, again}
-use Rattle.mc_boot.specs.declared.boot.Boot.{Boot}
-use Rattle.mc_boot.specs.declared.shared_tail.SharedTail.{SharedTail}
-use Rattle.mc_explore.specs.Schedules.{CanOccur}
-use Rattle.mc_explore.specs.declared.one_round.OneRound.{OneRound}
-use Rattle.mc_explore.specs.declared.one_round.Summary.{Summary}
-use Rattle.mc_explore.specs.facts.Children.{IsAtChild, child_here, listed_there}
-use Rattle.mc_explore.specs.facts.Occurring.{occurs_allowed}
+use Rattle.std.proofs.{Common.{List, ap, arith, length, refl, subst, sym, ℕ, ◌++◌, ◌+◌, ◌<◌, ◌∙◌, ◌≡◌, ◌≤◌}, Math.Nat.{min-le_right}, lemmas.List.{length-take}}
+use Rattle.mc_boot.specs.{Outcome.{after, ops_of}, Plan.{PowerOn, again}, declared.boot.Boot.{Boot}, declared.shared_tail.SharedTail.{SharedTail}}
+use Rattle.mc_explore.specs.{Schedules.{CanOccur}, declared.one_round.OneRound.{OneRound}, declared.one_round.Summary.{Summary}}
+use Rattle.mc_explore.specs.{facts.Children.{IsAtChild, child_here, listed_there}, facts.Occurring.{occurs_allowed}}
 use Rattle.mc_explore.specs.inner.OneRound.{GoesOnIn, begins, begun_of, boots, one_round}
-use Rattle.mc_flash.specs.Flash.{Content}
-use Rattle.mc_flash.specs.Usage.{Seen}
-use Rattle.mc_tree.specs.Tree.{Allowed, IsMember, landed}
-use Rattle.mc_tree.specs.facts.Order.{allowed_prefix}
-use Rattle.mc_walk.specs.TreeModel.{IsChildOf, TreeModel}
-use Rattle.mc_walk.specs.Walks.{Begins, Follows, IsLastStep, IsPath, IsSame, IsThere, Walked, origin_of}
+use Rattle.mc_flash.specs.{Flash.{Content}, Usage.{Seen}}
+use Rattle.mc_tree.specs.{Tree.{Allowed, IsMember, landed}, facts.Order.{allowed_prefix}}
+use Rattle.mc_walk.specs.{TreeModel.{IsChildOf, TreeModel}, Walks.{Begins, Follows, IsLastStep, IsPath, IsSame, IsThere, Walked, origin_of}}
 use Rattle.mc_walk.specs.declared.frame.Frame.{Frame}
 use Rattle.mc_vectors.specs.inner.Searching.{GoesOnAt, IsAt}
 use Rattle.mc_vectors.proofs.Visited.{lands}

@@ -1,17 +1,12 @@
 -- Where each case is done, all flashes are found.
 use Rattle.std.specs.Prelude.{All, Contains, Some, is_some, false, true, Bool}
 use Rattle.std.proofs.Common.{List, [], append-nil, ap, arith, inl, inr, length, length-append, refl, subst, sym, ℕ, ◌++◌, ◌+◌, ◌<◌, ◌∙◌, ◌∷◌, ◌≡◌, ◌≤◌, ◌⊎◌, append_assoc}
-use Rattle.std.proofs.lemmas.List.{take_all}
-use Rattle.std.proofs.lemmas.List.Elements.{All-contains}
-use Rattle.mc_boot.specs.Outcome.{after, ops_of}
-use Rattle.mc_boot.specs.Plan.{PowerOn, again}
-use Rattle.mc_explore.specs.facts.Occurring.{allowed_after, occurs_allowed}
-use Rattle.mc_explore.specs.inner.OneRound.{at_cut, boots}
+use Rattle.std.proofs.{lemmas.List.{take_all}, lemmas.List.Elements.{All-contains}}
+use Rattle.mc_boot.specs.{Outcome.{after, ops_of}, Plan.{PowerOn, again}}
+use Rattle.mc_explore.specs.{facts.Occurring.{allowed_after, occurs_allowed}, inner.OneRound.{at_cut, boots}}
 use Rattle.mc_flash.specs.Flash.{Content}
-use Rattle.mc_tree.specs.Tree.{Allowed, landed}
-use Rattle.mc_tree.specs.facts.Order.{allowed-push, landed-push}
-use Rattle.mc_vectors.specs.Cases.{AnyCuts, AreCases, AtMost, ComesBefore, HasNoCollision, IsNoLater}
-use Rattle.mc_vectors.specs.declared.case.Case.{Case}
+use Rattle.mc_tree.specs.{Tree.{Allowed, landed}, facts.Order.{allowed-push, landed-push}}
+use Rattle.mc_vectors.specs.{Cases.{AnyCuts, AreCases, AtMost, ComesBefore, HasNoCollision, IsNoLater}, declared.case.Case.{Case}}
 use Rattle.mc_vectors.specs.inner.Searching.{IsDone, IsSearch}
 use Rattle.mc_vectors.proofs.Orders.{no_later_on, no_later_trans, no_longer}
 

@@ -1,19 +1,12 @@
 -- The sectors in which two flashes differ, one after another.
 use Rattle.std.specs.Prelude.{bytes_eq, cond, false, min, not, suc, take, true, zero}
 use Rattle.std.proofs.Common.{List, [], Bool, ap, append-nil, append_assoc, arith, length, length-append, refl, subst, sym, take-add, ℕ, ◌*◌, ◌++◌, ◌+◌, ◌<◌, ◌∙◌, ◌∷◌, ◌≡◌, ◌≤◌}
-use Rattle.std.proofs.Math.Path.{ap₂}
-use Rattle.std.proofs.lemmas.List.{take_all}
-use Rattle.std.proofs.lemmas.List.Elements.{filter-append}
-use Rattle.std.proofs.lemmas.List.FromFn.{filter_of_map_range_with_len_more, length-map-range_with_len}
-use Rattle.std.proofs.lemmas.List.Sums.{count_by-le-length, length-filter}
+use Rattle.std.proofs.{Math.Path.{ap₂}, lemmas.List.{take_all}, lemmas.List.Elements.{filter-append}}
+use Rattle.std.proofs.{lemmas.List.FromFn.{filter_of_map_range_with_len_more, length-map-range_with_len}, lemmas.List.Sums.{count_by-le-length, length-filter}}
 use Rattle.std.proofs.lemmas.Slice.Eq.{bytes_eq-Decides}
-use Rattle.mc_flash.specs.Flash.{Content, IsSized, bytes_of, sectors_of}
-use Rattle.mc_flash.specs.Geometry.{Geometry}
-use Rattle.mc_flash.specs.declared.op.Slot.{Slot}
-use Rattle.mc_flash.specs.declared.op.Slot.TheVariants.{Primary, Secondary}
-use Rattle.mc_flash.specs.facts.Changes.{sized_is}
-use Rattle.mc_vectors.specs.Locating.{content_of, differing, distance, held_in, is_other, slot_sectors}
-use Rattle.mc_vectors.specs.declared.locating.SectorId.{SectorId}
+use Rattle.mc_flash.specs.{Flash.{Content, IsSized, bytes_of, sectors_of}, Geometry.{Geometry}, declared.op.Slot.{Slot}}
+use Rattle.mc_flash.specs.{declared.op.Slot.TheVariants.{Primary, Secondary}, facts.Changes.{sized_is}}
+use Rattle.mc_vectors.specs.{Locating.{content_of, differing, distance, held_in, is_other, slot_sectors}, declared.locating.SectorId.{SectorId}}
 use Rattle.mc_vectors.specs.inner.Locating.{differing_first, differing_in}
 
 parts_none : {A : Type 0} (xs ys : List A) → xs ++ ys ≡ [] → (xs ≡ []) × (ys ≡ [])

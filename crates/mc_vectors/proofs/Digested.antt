@@ -1,16 +1,10 @@
 -- The digests of sectors, one after another.
-use Rattle.std.specs.List.{concat, range_with_len}
-use Rattle.std.specs.Prelude.{get_or, length, map, take}
-use Rattle.std.proofs.Common.{List, [], append-nil, append_assoc, ap, arith, sym, ℕ, ◌++◌, ◌+◌, ◌/◌, ◌<◌, ◌∙◌, ◌∷◌, ◌≡◌}
-use Rattle.std.proofs.Math.Nat.{mul-div_cancel}
-use Rattle.std.proofs.lemmas.List.{take_more}
-use Rattle.std.proofs.lemmas.List.Folds.{concat-append}
-use Rattle.std.proofs.lemmas.List.FromFn.{get_or-map-range_with_len, length-map-range_with_len}
+use Rattle.std.specs.{List.{concat, range_with_len}, Prelude.{get_or, length, map, take}}
+use Rattle.std.proofs.{Common.{List, [], append-nil, append_assoc, ap, arith, sym, ℕ, ◌++◌, ◌+◌, ◌/◌, ◌<◌, ◌∙◌, ◌∷◌, ◌≡◌}, Math.Nat.{mul-div_cancel}}
+use Rattle.std.proofs.{lemmas.List.{take_more}, lemmas.List.Folds.{concat-append}, lemmas.List.FromFn.{get_or-map-range_with_len, length-map-range_with_len}}
 use Rattle.std.proofs.lemmas.List.Concat.{concat_is}
 use Rattle.mc_flash.specs.Geometry.{Geometry}
-use Rattle.mc_vectors.specs.Cases.{flash_digest, sector_digest}
-use Rattle.mc_vectors.specs.declared.digests.SlotDigests.{SlotDigests}
-use Rattle.mc_vectors.specs.inner.Digests.{AreDigests, IsWhole}
+use Rattle.mc_vectors.specs.{Cases.{flash_digest, sector_digest}, declared.digests.SlotDigests.{SlotDigests}, inner.Digests.{AreDigests, IsWhole}}
 use Rattle.sha2.specs.Sha256.{sha256}
 
 -- One list more is joined.

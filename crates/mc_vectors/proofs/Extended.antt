@@ -1,16 +1,13 @@
 -- The cases with one more, and one more of them done.
 use Rattle.std.specs.Prelude.{All, AllPairs, Contains, Some, get_or, take, false, true}
 use Rattle.std.proofs.Common.{List, [], ap, arith, inl, inr, length, length-append, refl, subst, sym, true≢false, ℕ, ◌++◌, ◌+◌, ◌<◌, ◌∙◌, ◌∷◌, ◌≡◌, ◌≢◌, ◌≤◌, ◌⊎◌}
-use Rattle.std.proofs.lemmas.Bool.{cases_lt}
-use Rattle.std.proofs.lemmas.List.{get_or_append_left, get_or_default, take-append-le}
+use Rattle.std.proofs.{lemmas.Bool.{cases_lt}, lemmas.List.{get_or_append_left, get_or_default, take-append-le}}
 use Rattle.std.proofs.lemmas.List.Elements.{All-more, All-weaker, Contains-append_left, Contains-get_or, Contains-push, Contains-push_cases}
 use Rattle.std.proofs.lemmas.List.Quantifiers.{all_pairs_push}
-use Rattle.mc_boot.specs.Outcome.{after, ops_of}
-use Rattle.mc_boot.specs.Plan.{PowerOn, again}
+use Rattle.mc_boot.specs.{Outcome.{after, ops_of}, Plan.{PowerOn, again}}
 use Rattle.mc_explore.specs.inner.OneRound.{at_cut}
 use Rattle.mc_flash.specs.Flash.{Content}
-use Rattle.mc_vectors.specs.Cases.{ComesBefore, IsCase, flash_digest}
-use Rattle.mc_vectors.specs.declared.case.Case.{Case}
+use Rattle.mc_vectors.specs.{Cases.{ComesBefore, IsCase, flash_digest}, declared.case.Case.{Case}}
 use Rattle.mc_vectors.specs.inner.Searching.{HasFound, IsBelow, IsDone, IsExpanding, IsFound, IsJoined, IsSearch}
 use Rattle.mc_vectors.proofs.Orders.{before_on, before_trans, number_before}
 

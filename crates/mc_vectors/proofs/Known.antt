@@ -1,15 +1,11 @@
 -- The digests of the cases, as a set that grows.
-use Rattle.std.specs.BTreeSet.{BTreeSet, Updates, contains}
-use Rattle.std.specs.Cmp.Lexicographic.{slice_cmp}
-use Rattle.std.specs.Ordering.{nat_cmp}
+use Rattle.std.specs.{BTreeSet.{BTreeSet, Updates, contains}, Cmp.Lexicographic.{slice_cmp}, Ordering.{nat_cmp}}
 use Rattle.std.specs.Prelude.{Bool, Contains, bytes_eq, cond, false, not, true}
 use Rattle.std.proofs.Common.{List, [], ap, inl, inr, refl, subst, sym, true≢false, ℕ, ◌++◌, ◌∙◌, ◌∷◌, ◌≡◌, ◌≢◌}
-use Rattle.std.proofs.lemmas.List.Elements.{Contains-append_left, Contains-push, Contains-push_cases}
-use Rattle.std.proofs.lemmas.Map.Text.{is_eq-slice_cmp}
+use Rattle.std.proofs.{lemmas.List.Elements.{Contains-append_left, Contains-push, Contains-push_cases}, lemmas.Map.Text.{is_eq-slice_cmp}}
 use Rattle.std.proofs.lemmas.Slice.Eq.{bytes_eq-Decides}
 use Rattle.mc_tree.specs.facts.Lists.{no_element}
-use Rattle.mc_vectors.specs.declared.case.Case.{Case}
-use Rattle.mc_vectors.specs.inner.Searching.{AreKnown}
+use Rattle.mc_vectors.specs.{declared.case.Case.{Case}, inner.Searching.{AreKnown}}
 
 -- None is known where there is no case.
 pub known_none : (known : BTreeSet (List ℕ)) → known.keys ≡ [] → AreKnown known []

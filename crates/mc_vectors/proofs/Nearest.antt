@@ -1,23 +1,15 @@
 -- The nearest of the cases that were gone through.
 use Rattle.std.specs.Prelude.{AllPairs, Contains, Option, Some, None, drop, get_or, is_some, min, take, true}
-use Rattle.std.proofs.Common.{List, [], ap, arith, inl, inr, length, refl, subst, sym, ℕ, ◌++◌, ◌+◌, ◌<◌, ◌∙◌, ◌∷◌, ◌≡◌, ◌≤◌, ◌⊎◌}
-use Rattle.std.proofs.lemmas.Bool.{cases_lt}
+use Rattle.std.proofs.{Common.{List, [], ap, arith, inl, inr, length, refl, subst, sym, ℕ, ◌++◌, ◌+◌, ◌<◌, ◌∙◌, ◌∷◌, ◌≡◌, ◌≤◌, ◌⊎◌}, lemmas.Bool.{cases_lt}}
 use Rattle.std.proofs.lemmas.List.{get_or-take, get_or_default, length-take, take-append-drop, take_all, take_more}
 use Rattle.std.proofs.lemmas.List.Elements.{Contains-append_left, Contains-push, Contains-push_cases}
-use Rattle.mc_boot.specs.Outcome.{after}
-use Rattle.mc_boot.specs.Plan.{PowerOn}
-use Rattle.mc_explore.specs.Schedules.{CanOccur, CannotOccurAt}
-use Rattle.mc_explore.specs.facts.Occurring.{allowed_occurs, occurs_allowed}
-use Rattle.mc_explore.specs.inner.OneRound.{boots}
+use Rattle.mc_boot.specs.{Outcome.{after}, Plan.{PowerOn}}
+use Rattle.mc_explore.specs.{Schedules.{CanOccur, CannotOccurAt}, facts.Occurring.{allowed_occurs, occurs_allowed}, inner.OneRound.{boots}}
 use Rattle.mc_flash.specs.Flash.{Content}
-use Rattle.mc_tree.specs.facts.Lists.{no_element}
-use Rattle.mc_tree.specs.facts.Order.{allowed_prefix}
-use Rattle.mc_vectors.specs.Cases.{AreCases, ComesBefore, IsNoLater}
-use Rattle.mc_vectors.specs.Locating.{IsNearest, IsNoFarther, distance}
-use Rattle.mc_vectors.specs.declared.case.Case.{Case}
+use Rattle.mc_tree.specs.{facts.Lists.{no_element}, facts.Order.{allowed_prefix}}
+use Rattle.mc_vectors.specs.{Cases.{AreCases, ComesBefore, IsNoLater}, Locating.{IsNearest, IsNoFarther, distance}, declared.case.Case.{Case}}
 use Rattle.mc_vectors.specs.inner.Locating.{IsNearestCase}
-use Rattle.mc_vectors.proofs.Differing.{distance_few}
-use Rattle.mc_vectors.proofs.Orders.{no_later_trans}
+use Rattle.mc_vectors.proofs.{Differing.{distance_few}, Orders.{no_later_trans}}
 
 pub some_of : {A : Type 0} (o : Option A) → is_some o ≡ true → (a : A) × (o ≡ Some a)
 some_of None is = absurd cc

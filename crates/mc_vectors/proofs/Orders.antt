@@ -1,7 +1,6 @@
 -- The order of schedules by their lengths.
 use Rattle.std.proofs.Common.{List, [], ap, arith, inl, inr, length, length-append, refl, subst, sym, ℕ, ◌++◌, ◌<◌, ◌∙◌, ◌∷◌, ◌≡◌, ◌≤◌}
-use Rattle.mc_tree.specs.Tree.{Precedes}
-use Rattle.mc_tree.specs.facts.Order.{paths_in_order}
+use Rattle.mc_tree.specs.{Tree.{Precedes}, facts.Order.{paths_in_order}}
 use Rattle.mc_vectors.specs.Cases.{ComesBefore, IsNoLater}
 
 -- Of two as long, what follows changes nothing.

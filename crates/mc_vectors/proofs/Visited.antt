@@ -1,21 +1,14 @@
 -- A walk that visits the flashes at the cuts of a boot.
 use Rattle.std.specs.Prelude.{Contains, Err, IfOk, Ok, Result, Some, is_some, true}
-use Rattle.std.proofs.Common.{List, [], ap, arith, length, length-append, subst, sym, ℕ, ◌++◌, ◌+◌, ◌<◌, ◌∙◌, ◌∷◌, ◌≡◌, ◌≢◌}
-use Rattle.std.proofs.lemmas.List.{same_from_push}
-use Rattle.mc_boot.specs.Outcome.{after, left_by, ops_of, outcome_of, shown}
-use Rattle.mc_boot.specs.Plan.{PowerOn, again}
-use Rattle.mc_boot.specs.SharedTail.{index_in_parent}
-use Rattle.mc_explore.specs.facts.Occurring.{allowed_after, occurs_allowed}
-use Rattle.mc_explore.specs.facts.Tails.{placed_at}
-use Rattle.mc_explore.specs.inner.OneRound.{GoesOnIn, at_cut, boots, content_or, one_round}
-use Rattle.mc_explore.specs.declared.one_round.OneRound.{OneRound}
+use Rattle.std.proofs.{Common.{List, [], ap, arith, length, length-append, subst, sym, ℕ, ◌++◌, ◌+◌, ◌<◌, ◌∙◌, ◌∷◌, ◌≡◌, ◌≢◌}, lemmas.List.{same_from_push}}
+use Rattle.mc_boot.specs.{Outcome.{after, left_by, ops_of, outcome_of, shown}, Plan.{PowerOn, again}, SharedTail.{index_in_parent}}
+use Rattle.mc_explore.specs.{facts.Occurring.{allowed_after, occurs_allowed}, facts.Tails.{placed_at}}
+use Rattle.mc_explore.specs.{inner.OneRound.{GoesOnIn, at_cut, boots, content_or, one_round}, declared.one_round.OneRound.{OneRound}}
 use Rattle.mc_explore.specs.declared.one_round.Summary.{Summary}
 use Rattle.mc_flash.specs.Flash.{Content}
-use Rattle.mc_tree.specs.Tree.{Tree, landed}
-use Rattle.mc_tree.specs.facts.Order.{allowed-last, landed-push}
+use Rattle.mc_tree.specs.{Tree.{Tree, landed}, facts.Order.{allowed-last, landed-push}}
 use Rattle.mc_walk.specs.Walks.{IsThere, Walked}
-use Rattle.mc_vectors.specs.Cases.{IsCase, flash_digest}
-use Rattle.mc_vectors.specs.declared.case.Case.{Case}
+use Rattle.mc_vectors.specs.{Cases.{IsCase, flash_digest}, declared.case.Case.{Case}}
 use Rattle.mc_vectors.specs.inner.Searching.{GoesOnAt, IsAt, IsCaseHere, IsExpanding, IsJoined, IsOwnCase}
 use Rattle.mc_vectors.proofs.Extended.{IsNext, fresh, known, p_inside}
 

@@ -1,10 +1,8 @@
 -- The distinct flashes that power cuts leave, each with the first schedule that leaves it (docs/FORMAT.md, "Vectors").
 use Rattle.std.specs.List.{between, concat, range_with_len}
 use Rattle.std.specs.Prelude.{AllPairs, Contains, List, Some, length, map, ℕ, ⊤, ◌*◌, ◌++◌, ◌+◌, ◌/◌, ◌<◌, ◌≡◌, ◌≢◌, ◌≤◌, ◌⊎◌}
-use Rattle.mc_boot.specs.Outcome.{after, left_by, outcome_of, shown}
-use Rattle.mc_boot.specs.Plan.{PowerOn, again}
-use Rattle.mc_flash.specs.Flash.{Content}
-use Rattle.mc_flash.specs.Geometry.{Geometry}
+use Rattle.mc_boot.specs.{Outcome.{after, left_by, outcome_of, shown}, Plan.{PowerOn, again}}
+use Rattle.mc_flash.specs.{Flash.{Content}, Geometry.{Geometry}}
 use Rattle.mc_tree.specs.Tree.{Precedes}
 use Rattle.mc_vectors.specs.declared.case.Case.{Case}
 use Rattle.sha2.specs.Sha256.{sha256}

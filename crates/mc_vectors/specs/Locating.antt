@@ -1,16 +1,11 @@
 -- Which of the flashes that power cuts leave comes nearest to a given one, and in which sectors the two differ.
 use Rattle.std.specs.List.{between, range_with_len}
 use Rattle.std.specs.Prelude.{Bool, List, Some, bytes_eq, codes, decimal, filter, flat_map, length, map, not, ℕ, ◌*◌, ◌++◌, ◌+◌, ◌<◌, ◌≡◌, ◌⊎◌}
-use Rattle.mc_boot.specs.Outcome.{after}
-use Rattle.mc_boot.specs.Plan.{PowerOn}
-use Rattle.mc_flash.specs.Flash.{Content, bytes_of, sectors_of, slot_text}
-use Rattle.mc_flash.specs.Geometry.{Geometry}
-use Rattle.mc_flash.specs.declared.op.Slot.{Slot}
+use Rattle.mc_boot.specs.{Outcome.{after}, Plan.{PowerOn}}
+use Rattle.mc_flash.specs.{Flash.{Content, bytes_of, sectors_of, slot_text}, Geometry.{Geometry}, declared.op.Slot.{Slot}}
 use Rattle.mc_flash.specs.declared.op.Slot.TheVariants.{Primary, Secondary}
 use Rattle.mc_start.specs.Start.{schedule_text}
-use Rattle.mc_vectors.specs.Cases.{HasNoCollision, IsNoLater}
-use Rattle.mc_vectors.specs.declared.locating.Located.{Located}
-use Rattle.mc_vectors.specs.declared.locating.SectorId.{SectorId}
+use Rattle.mc_vectors.specs.{Cases.{HasNoCollision, IsNoLater}, declared.locating.Located.{Located}, declared.locating.SectorId.{SectorId}}
 
 -- In which sectors two flashes differ.
 

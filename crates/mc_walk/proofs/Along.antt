@@ -1,18 +1,13 @@
 -- The way along a path, and its labels.
 use Rattle.std.proofs.Common.{Bool, IfSome, List, None, Option, Some, [], ap, append-nil, append_assoc, arith, false, get_or, is_some, length, refl, subst, suc, sym, take, true, zero, ℕ, ◌++◌, ◌+◌, ◌<◌, ◌∙◌, ◌∷◌, ◌≡◌, ◌≤◌}
-use Rattle.std.proofs.lemmas.List.{take_all, take_more}
-use Rattle.std.proofs.lemmas.Option.{slice_get_past}
+use Rattle.std.proofs.{lemmas.List.{take_all, take_more}, lemmas.Option.{slice_get_past}}
 use Rattle.std.specs.List.{slice_get}
-use Rattle.mc_flash.specs.Usage.{Checkpoint, Seen, Spent}
-use Rattle.mc_flash.specs.facts.Spends.{spent_both}
-use Rattle.mc_tree.specs.Tree.{After, IsMember, IsNext, labelled}
-use Rattle.mc_tree.specs.facts.Order.{childless, next_above, next_below, none_above}
+use Rattle.mc_flash.specs.{Usage.{Checkpoint, Seen, Spent}, facts.Spends.{spent_both}}
+use Rattle.mc_tree.specs.{Tree.{After, IsMember, IsNext, labelled}, facts.Order.{childless, next_above, next_below, none_above}}
 use Rattle.mc_walk.proofs.Steps.{standing}
 use Rattle.mc_walk.specs.TreeModel.{TreeModel}
 use Rattle.mc_walk.specs.Walks.{Advances, Climbs, Follows, GoesDown, IsGoing, IsSame, StopsOn, Walked, child_cost, origin_of, path_cost, root_of}
-use Rattle.mc_walk.specs.declared.frame.Frame.{Frame}
-use Rattle.mc_walk.specs.facts.Same.{path_back}
-use Rattle.mc_walk.specs.inner.Stack.{AreFrames, path_of}
+use Rattle.mc_walk.specs.{declared.frame.Frame.{Frame}, facts.Same.{path_back}, inner.Stack.{AreFrames, path_of}}
 
 -- A walk from one path to another.
 

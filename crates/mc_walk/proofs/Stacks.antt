@@ -1,14 +1,10 @@
 -- Frames taken off, and frames over their checkpoints.
 use Rattle.std.proofs.Common.{Err, IfOk, List, Ok, OnOk, Option, Result, Some, [], ap, append_assoc, arith, length, length-append, option_to_list, refl, slice_get, subst, suc, sym, take, zero, ℕ, ◌*◌, ◌++◌, ◌+◌, ◌-◌, ◌<◌, ◌^◌, ◌∙◌, ◌∷◌, ◌≡◌}
-use Rattle.std.proofs.lemmas.List.{append-nil, get_or_at, map-append, take_at}
-use Rattle.std.proofs.lemmas.Option.{same_Some, slice_get_within}
+use Rattle.std.proofs.{lemmas.List.{append-nil, get_or_at, map-append, take_at}, lemmas.Option.{same_Some, slice_get_within}}
 use Rattle.std.specs.Prelude.{slice_index_or}
-use Rattle.mc_flash.specs.Flash.{Content}
-use Rattle.mc_flash.specs.Usage.{Checkpoint, Counts, LeaveRoom, Seen, Stays, checkpoint_at, checkpoint_of, marked, no_checkpoint, went_back}
-use Rattle.mc_tree.specs.Tree.{Allowed, landed}
-use Rattle.mc_tree.specs.facts.Order.{AllLast, landed-push}
-use Rattle.mc_walk.specs.TreeModel.{IsAt, IsChild, TreeModel, IsChildSummary}
-use Rattle.mc_walk.specs.declared.frame.Frame.{Frame}
+use Rattle.mc_flash.specs.{Flash.{Content}, Usage.{Checkpoint, Counts, LeaveRoom, Seen, Stays, checkpoint_at, checkpoint_of, marked, no_checkpoint, went_back}}
+use Rattle.mc_tree.specs.{Tree.{Allowed, landed}, facts.Order.{AllLast, landed-push}}
+use Rattle.mc_walk.specs.{TreeModel.{IsAt, IsChild, TreeModel, IsChildSummary}, declared.frame.Frame.{Frame}}
 use Rattle.mc_walk.specs.inner.Stack.{AreFrames, AreOff, AreSpent, Comes, IsFrame, IsLastOpen, IsLeft, IsOpen, IsSpent, Stacked, Stands, most_at, node_of, path_of}
 
 -- Frames that are taken off one after another.

@@ -1,16 +1,13 @@
 -- A walk on its way to a further node.
 use Rattle.std.proofs.Common.{◌≡◌, ℕ, ◌+◌, ◌*◌, ◌<◌, ◌≤◌, true, false, List, [], ◌∷◌, ◌++◌, length, Option, Some, None, Result, Ok, OnOk, IfSome, is_some, slice_index_or, slice_set, ◌-◌, length-append, refl, sym, ap, subst, ◌∙◌, arith}
 use Rattle.std.proofs.lemmas.List.{map-append, length-map, get_or_at, set_at}
-use Rattle.mc_tree.specs.Tree.{Allowed}
-use Rattle.mc_tree.specs.facts.Order.{IsNextBeyond, allowed-last, none_beyond, next_beyond}
+use Rattle.mc_tree.specs.{Tree.{Allowed}, facts.Order.{IsNextBeyond, allowed-last, none_beyond, next_beyond}}
 use Rattle.mc_flash.specs.Flash.{Content}
 use Rattle.mc_flash.specs.Usage.{Counts, Checkpoint, Seen, Keeps, checkpoint_of, went_back, marked, Spent, Spends, Stays, HasRoom, LeaveRoom, plus, room_of}
-use Rattle.mc_flash.specs.facts.Spends.{spent_back, spent_both, spent_more}
-use Rattle.mc_flash.specs.declared.flash.FlashError.{FlashError}
+use Rattle.mc_flash.specs.{facts.Spends.{spent_back, spent_both, spent_more}, declared.flash.FlashError.{FlashError}}
 use Rattle.mc_walk.specs.TreeModel.{TreeModel, owed_there, summary_cost, IsAt, IsParent, HasNext, ReachesNext, CanReach}
 use Rattle.mc_walk.specs.inner.Stack.{path_of, most_at, AreSpent, IsLastOpen, AreFrames, Stacked, node_of, Stands, Comes, CanGoOn, IsLeft, IsOneOn, IsRoomy}
-use Rattle.mc_walk.specs.Walks.{walked, origin_of, IsFresh, Begins, IsThere, IsGoing, IsLastStep, IsPath, GoesDown, Climbs}
-use Rattle.mc_walk.specs.declared.frame.Frame.{Frame}
+use Rattle.mc_walk.specs.{Walks.{walked, origin_of, IsFresh, Begins, IsThere, IsGoing, IsLastStep, IsPath, GoesDown, Climbs}, declared.frame.Frame.{Frame}}
 use Rattle.mc_walk.proofs.Stacks.{path-push, no_path, frames_allowed, frames_last, among, node-push, first_is_origin, length-stack, popped}
 
 pub ok_any : {X E P : Type 0} (r : Result X E) → P → OnOk r P

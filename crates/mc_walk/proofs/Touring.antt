@@ -1,9 +1,7 @@
 -- The first node that a tour visits.
 use Rattle.std.proofs.Common.{◌≡◌, ◌⊎◌, ℕ, List, [], Bool, true, false, refl, sym, subst, arith}
-use Rattle.mc_tree.specs.Tree.{Position, AtStart, IsNext}
-use Rattle.mc_tree.specs.facts.Order.{next_after_last, none_after_last, none_before_root}
-use Rattle.mc_walk.specs.TreeModel.{TreeModel}
-use Rattle.mc_walk.specs.Walks.{Toured, IsBeyondLast, StandsAt, StandsBeyond, Visits, Walked, Begins, Climbs, IsPath, root_of}
+use Rattle.mc_tree.specs.{Tree.{Position, AtStart, IsNext}, facts.Order.{next_after_last, none_after_last, none_before_root}}
+use Rattle.mc_walk.specs.{TreeModel.{TreeModel}, Walks.{Toured, IsBeyondLast, StandsAt, StandsBeyond, Visits, Walked, Begins, Climbs, IsPath, root_of}}
 use Rattle.mc_walk.specs.declared.tour.Phase.TheVariants.{Fresh, Going, Done}
 
 module _ {N A T B : Type 0} (k : TreeModel N A T) (old : Toured B) (summary : T) (new : Walked B) (begins : Begins k old.walk summary new) where

@@ -1,9 +1,7 @@
 -- A kind of tree over the contents of a flash.
 use Rattle.std.specs.Prelude.{◌≡◌, ℕ, ◌+◌, ◌<◌, ◌≤◌, Option, Some, None, Result, Ok, Err}
 use Rattle.mc_tree.specs.Tree.{Tree}
-use Rattle.mc_flash.specs.Flash.{Content}
-use Rattle.mc_flash.specs.Geometry.{Geometry}
-use Rattle.mc_flash.specs.Usage.{Counts, no_counts, Seen, Allows, LeaveRoom, plus}
+use Rattle.mc_flash.specs.{Flash.{Content}, Geometry.{Geometry}, Usage.{Counts, no_counts, Seen, Allows, LeaveRoom, plus}}
 
 pub record TreeModel (N A T : Type 0) : Type 1 where
   pub tree : Tree N

@@ -1,14 +1,9 @@
 -- What callers see of a walk, and how it goes on.
 use Rattle.std.specs.Prelude.{Bool, Err, IfSome, List, Ok, Option, Result, [], false, is_some, length, take, true, ℕ, ◌*◌, ◌++◌, ◌+◌, ◌<◌, ◌∷◌, ◌≡◌, ◌≢◌, ◌≤◌}
-use Rattle.mc_flash.specs.Flash.{Content}
-use Rattle.mc_flash.specs.Usage.{HasRoom, LeaveRoom, RanOut, Seen, Spent, checkpoint_at, checkpoint_of, no_counts}
-use Rattle.mc_tree.specs.Tree.{After, AtStart, IsMember, IsNext, IsOver, Lost, Position, landed}
-use Rattle.mc_tree.specs.facts.Order.{IsNextBeyond, NoneBeyond}
-use Rattle.mc_walk.specs.TreeModel.{IsAt, TreeModel, summary_cost}
-use Rattle.mc_walk.specs.declared.frame.Frame.{Frame}
-use Rattle.mc_walk.specs.declared.tour.Phase.{Phase}
-use Rattle.mc_walk.specs.declared.tour.Phase.TheVariants.{Broken, Done, Fresh, Going}
-use Rattle.mc_walk.specs.declared.tour.TourError.{TourError}
+use Rattle.mc_flash.specs.{Flash.{Content}, Usage.{HasRoom, LeaveRoom, RanOut, Seen, Spent, checkpoint_at, checkpoint_of, no_counts}}
+use Rattle.mc_tree.specs.{Tree.{After, AtStart, IsMember, IsNext, IsOver, Lost, Position, landed}, facts.Order.{IsNextBeyond, NoneBeyond}}
+use Rattle.mc_walk.specs.{TreeModel.{IsAt, TreeModel, summary_cost}, declared.frame.Frame.{Frame}, declared.tour.Phase.{Phase}}
+use Rattle.mc_walk.specs.{declared.tour.Phase.TheVariants.{Broken, Done, Fresh, Going}, declared.tour.TourError.{TourError}}
 use Rattle.mc_walk.specs.inner.Stack.{IsRoomy, Stands, most_at, path_of}
 use Rattle.mc_walk.specs.declared.tour.TourError.TheVariants as errors
 

@@ -1,32 +1,18 @@
 -- How much a boot does at most: how many operations, and how many bytes their erases save.
 use Rattle.std.specs.Prelude.{◌≡◌, ◌⊎◌, ℕ, ◌+◌, ◌*◌, ◌/◌, ◌≤◌, ◌==◌, ◌||◌, not, nat_lt, Bool, true, false, if◌then◌else◌, List, [], ◌∷◌, ◌++◌, length, drop, is_none, max, map, flat_map, Option, Some, None, refl}
-use Rattle.std.specs.Int.{div_ceil}
-use Rattle.std.specs.List.{range_with_len}
-use Rattle.std.proofs.Common.{arith, ap, length-append, inl, inr}
-use Rattle.std.proofs.Math.Nat.{mul-le-mul_right}
-use Rattle.std.proofs.lemmas.List.{length-drop}
+use Rattle.std.specs.{Int.{div_ceil}, List.{range_with_len}}
+use Rattle.std.proofs.{Common.{arith, ap, length-append, inl, inr}, Math.Nat.{mul-le-mul_right}, lemmas.List.{length-drop}}
 use Rattle.std.proofs.lemmas.List.FromFn.{length-map-range_with_len, length-range_with_len}
-use Rattle.mc_flash.specs.Geometry.{Geometry, IsLayout, trailer_sectors, greatest_sectors, in_pieces}
-use Rattle.mc_flash.specs.Flash.{Content, apply}
-use Rattle.mc_flash.specs.Usage.{saves, most_operations, most_saved}
-use Rattle.mc_flash.specs.declared.flash.Grain.{Grain}
+use Rattle.mc_flash.specs.{Geometry.{Geometry, IsLayout, trailer_sectors, greatest_sectors, in_pieces}, Flash.{Content, apply}}
+use Rattle.mc_flash.specs.{Usage.{saves, most_operations, most_saved}, declared.flash.Grain.{Grain}}
 use Rattle.mc_flash.specs.declared.flash.Grain.TheVariants as grains
-use Rattle.mc_flash.specs.declared.op.Slot.{Slot}
-use Rattle.mc_flash.specs.declared.op.Slot.TheVariants.{Primary, Secondary}
-use Rattle.mc_flash.specs.declared.op.Op.{Op}
-use Rattle.mc_trailer.specs.Trailer.{trailer_of, place, highest_entry}
-use Rattle.mc_trailer.specs.Tables.{table_of, is_resumed}
-use Rattle.mc_trailer.specs.declared.places.Field.{Field}
-use Rattle.mc_trailer.specs.declared.trailer.Flag.{Flag}
-use Rattle.mc_trailer.specs.declared.trailer.Trailer.{Trailer}
-use Rattle.mc_trailer.specs.declared.tables.SwapType.{SwapType}
+use Rattle.mc_flash.specs.{declared.op.Slot.{Slot}, declared.op.Slot.TheVariants.{Primary, Secondary}, declared.op.Op.{Op}}
+use Rattle.mc_trailer.specs.{Trailer.{trailer_of, place, highest_entry}, Tables.{table_of, is_resumed}, declared.places.Field.{Field}}
+use Rattle.mc_trailer.specs.{declared.trailer.Flag.{Flag}, declared.trailer.Trailer.{Trailer}, declared.tables.SwapType.{SwapType}}
 use Rattle.mc_trailer.specs.declared.tables.SwapType.TheVariants as kinds
-use Rattle.mc_boot.specs.declared.image.Images.{Images}
-use Rattle.mc_boot.specs.declared.transfer.Transfer.{Transfer}
+use Rattle.mc_boot.specs.{declared.image.Images.{Images}, declared.transfer.Transfer.{Transfer}}
 use Rattle.mc_boot.specs.Plan.{images_of, transfers, copy_of, entry_of, steps, trailer_erase, trailer_erases, piece, write, write_count, is_revert, preparation_writes, swap_list, new_list, Plan, nothing, confirms, first_left, new_swap, new_plan, resumed_from, resumed_swap, resumed_plan, plan_with, plan, PowerOn}
-use Rattle.mc_boot.specs.Outcome.{first_then, happening, ops_of}
-use Rattle.mc_boot.specs.Boot.{IsBounded, all_saves, list_from}
-use Rattle.mc_boot.specs.declared.course.Opening.{Opening}
+use Rattle.mc_boot.specs.{Outcome.{first_then, happening, ops_of}, Boot.{IsBounded, all_saves, list_from}, declared.course.Opening.{Opening}}
 use Rattle.mc_boot.specs.declared.course.Opening.TheVariants.{New, Resumed}
 use Rattle.mc_boot.specs.facts.Lengths.{length-magic, length-size, length-steps, length-transfers, length_pieces}
 

@@ -1,18 +1,14 @@
 -- What follows for an image that confirms itself. Proved here, so that the crates above can cite it.
 use Rattle.std.specs.Prelude.{◌≡◌, ◌&&◌, Bool, true, false, if◌then◌else◌, Some, None, Result, Ok, Err, OnOk, IfErr}
 use Rattle.std.proofs.Common.{arith, sym, ap, ◌∙◌}
-use Rattle.mc_flash.specs.Flash.{apply, Content, put, with_bytes}
-use Rattle.mc_flash.specs.facts.Done.{did, does_keep, undefined}
-use Rattle.mc_flash.specs.Geometry.{Geometry, IsLayout}
-use Rattle.mc_flash.specs.Usage.{IsFull, no_counts, Seen, Does, Keeps, Allows, LeaveRoom, Spends, plus}
-use Rattle.mc_flash.specs.facts.Spends.{done_notes}
+use Rattle.mc_flash.specs.{Flash.{apply, Content, put, with_bytes}, facts.Done.{did, does_keep, undefined}, Geometry.{Geometry, IsLayout}}
+use Rattle.mc_flash.specs.{Usage.{IsFull, no_counts, Seen, Does, Keeps, Allows, LeaveRoom, Spends, plus}, facts.Spends.{done_notes}}
 use Rattle.mc_flash.specs.declared.flash.FlashError.{FlashError}
 use Rattle.mc_flash.specs.declared.flash.FlashError.TheVariants as errors
 use Rattle.mc_flash.specs.declared.op.Slot.TheVariants.{Primary}
 use Rattle.mc_trailer.specs.Trailer.{one_unit, place}
 use Rattle.mc_trailer.specs.declared.places.Field.TheVariants as field
-use Rattle.mc_boot.specs.Restart.{Confirms, confirmed, may_confirm, one_write}
-use Rattle.mc_boot.specs.Plan.{image_ok_write}
+use Rattle.mc_boot.specs.{Restart.{Confirms, confirmed, may_confirm, one_write}, Plan.{image_ok_write}}
 
 third : (a b c : Bool) → (a && b && c) ≡ true → c ≡ true
 third it b c is = grind arith

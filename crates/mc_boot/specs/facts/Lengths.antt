@@ -1,17 +1,12 @@
 -- How many operations each part of a course has. Proved here, so that the bounds on a boot can cite it.
-use Rattle.std.proofs.Common.{ap, arith, length-append, sym, zero-mul, ◌∙◌}
-use Rattle.std.proofs.lemmas.List.{length-replicate}
+use Rattle.std.proofs.{Common.{ap, arith, length-append, sym, zero-mul, ◌∙◌}, lemmas.List.{length-replicate}}
 use Rattle.std.proofs.lemmas.List.FromFn.{length-map-range_with_len, length-range_with_len}
-use Rattle.std.specs.List.{range_with_len}
-use Rattle.std.specs.Prelude.{List, [], flat_map, length, map, max, refl, replicate, ℕ, ◌*◌, ◌+◌, ◌-◌, ◌/◌, ◌∷◌, ◌≡◌}
+use Rattle.std.specs.{List.{range_with_len}, Prelude.{List, [], flat_map, length, map, max, refl, replicate, ℕ, ◌*◌, ◌+◌, ◌-◌, ◌/◌, ◌∷◌, ◌≡◌}}
 use Rattle.byteorder.specs.Endian.{little_bytes}
 use Rattle.mc_boot.specs.Plan.{brought_in, copy_of, entry_of, moved_up, steps, taken_out, transfers, write, write_count}
 use Rattle.mc_boot.specs.declared.transfer.Transfer.{Transfer}
-use Rattle.mc_flash.specs.Geometry.{Geometry}
-use Rattle.mc_flash.specs.declared.flash.Grain.{Grain}
-use Rattle.mc_flash.specs.declared.op.Slot.{Slot}
-use Rattle.mc_trailer.specs.Trailer.{magic_bytes, size_bytes}
-use Rattle.mc_trailer.specs.declared.places.Field.{Field}
+use Rattle.mc_flash.specs.{Geometry.{Geometry}, declared.flash.Grain.{Grain}, declared.op.Slot.{Slot}}
+use Rattle.mc_trailer.specs.{Trailer.{magic_bytes, size_bytes}, declared.places.Field.{Field}}
 use Rattle.mc_trailer.specs.declared.places.Field.TheVariants as field
 
 pub length-write : (c : Grain) (g : Geometry) (slot : Slot) (f : Field) (new : List ℕ) → length (write c g slot f new) ≡ write_count c g (length new)

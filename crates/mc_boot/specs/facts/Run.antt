@@ -1,19 +1,13 @@
 -- What follows from where a boot is on its way. Proved here, so that the crates above can cite it.
 use Rattle.std.specs.Prelude.{◌≡◌, ℕ, zero, suc, ◌+◌, ◌<◌, ◌≤◌, nat_lt, Bool, true, false, if◌then◌else◌, List, [], ◌∷◌, ◌++◌, length, take, drop, Option, Some, None, option_and_then, option_map, Result, Ok, Err, refl}
-use Rattle.std.proofs.Common.{arith, inl, inr, sym, ap, subst, ◌∙◌}
-use Rattle.std.proofs.lemmas.Bool.Decides.{nat_tests}
+use Rattle.std.proofs.{Common.{arith, inl, inr, sym, ap, subst, ◌∙◌}, lemmas.Bool.Decides.{nat_tests}}
 use Rattle.std.proofs.lemmas.List.{length-take-le, length-drop, take_at, append-nil}
-use Rattle.mc_flash.specs.Geometry.{Geometry}
-use Rattle.mc_flash.specs.Flash.{Content, apply}
-use Rattle.mc_flash.specs.declared.op.Op.{Op}
-use Rattle.mc_flash.specs.declared.flash.FlashError.{FlashError}
+use Rattle.mc_flash.specs.{Geometry.{Geometry}, Flash.{Content, apply}, declared.op.Op.{Op}, declared.flash.FlashError.{FlashError}}
 use Rattle.mc_flash.specs.declared.flash.FlashError.TheVariants as errors
 use Rattle.mc_trailer.specs.declared.tables.Rules.{Rules}
-use Rattle.mc_boot.specs.Plan.{plan, PowerOn, power_on}
-use Rattle.mc_boot.specs.Outcome.{applied, first_then, happening, ops_of, at, is_faulted, left_by, Report, report, outcome_of}
+use Rattle.mc_boot.specs.{Plan.{plan, PowerOn, power_on}, Outcome.{applied, first_then, happening, ops_of, at, is_faulted, left_by, Report, report, outcome_of}}
 use Rattle.mc_boot.specs.Boot.{Progress, begun, stepped, refused, StepsAlong, Steps, HasCome}
-use Rattle.mc_flash.specs.Usage.{Seen, GivesUp, IsFull}
-use Rattle.mc_flash.specs.facts.Done.{did, undefined}
+use Rattle.mc_flash.specs.{Usage.{Seen, GivesUp, IsFull}, facts.Done.{did, undefined}}
 
 first_happens : (g : Geometry) (op : Op) (ops left : List Op) (s t : Content) (k : ℕ) → ((x : Content) → applied g (take k ops) x ≡ Some t → happening g ops x ≡ take k ops ++ left)
     → (o : Option Content) → option_and_then (λ u. applied g (take k ops) u) o ≡ Some t → first_then op (λ u. happening g ops u) o ≡ op ∷ (take k ops ++ left)

@@ -1,11 +1,8 @@
 -- What a step of a boot spends. Proved here, so that the crates above can cite it.
 use Rattle.std.specs.Prelude.{◌≡◌, ◌+◌, ◌<◌, ◌≤◌, false, List, [], ◌∷◌, length, slice_get, is_some, Option, Result, Ok, Err, refl}
 use Rattle.std.proofs.Common.{arith, inl, inr, sym, ap, subst}
-use Rattle.mc_flash.specs.Geometry.{Geometry}
-use Rattle.mc_flash.specs.Usage.{Limits, IsFull, Seen, GivesUp, RanOut, LeaveRoom, Allows, room_of}
-use Rattle.mc_flash.specs.facts.Spends.{Notes, done_notes, gave_up}
-use Rattle.mc_flash.specs.declared.op.Op.{Op}
-use Rattle.mc_flash.specs.declared.flash.FlashError.{FlashError}
+use Rattle.mc_flash.specs.{Geometry.{Geometry}, Usage.{Limits, IsFull, Seen, GivesUp, RanOut, LeaveRoom, Allows, room_of}}
+use Rattle.mc_flash.specs.{facts.Spends.{Notes, done_notes, gave_up}, declared.op.Op.{Op}, declared.flash.FlashError.{FlashError}}
 use Rattle.mc_flash.specs.declared.flash.FlashError.TheVariants as errors
 use Rattle.mc_boot.specs.Boot.{Progress, StepsAlong, Steps, CountsOn, all_saves, left_of}
 

@@ -1,10 +1,6 @@
 -- Operations that change nothing: erases of sectors that are erased.
-use Rattle.std.specs.List.{between}
-use Rattle.std.specs.Prelude.{Bool, IfSome, List, false, slice_get, true, ℕ, ◌*◌, ◌+◌, ◌<◌, ◌≡◌, ◌≢◌}
-use Rattle.mc_flash.specs.Flash.{Content, bytes_of, is_blank}
-use Rattle.mc_flash.specs.Geometry.{Geometry}
-use Rattle.mc_flash.specs.declared.op.Op.{Op}
-use Rattle.mc_flash.specs.declared.op.Op.TheVariants.{Copy, Erase, Program}
+use Rattle.std.specs.{List.{between}, Prelude.{Bool, IfSome, List, false, slice_get, true, ℕ, ◌*◌, ◌+◌, ◌<◌, ◌≡◌, ◌≢◌}}
+use Rattle.mc_flash.specs.{Flash.{Content, bytes_of, is_blank}, Geometry.{Geometry}, declared.op.Op.{Op}, declared.op.Op.TheVariants.{Copy, Erase, Program}}
 
 -- It erases a sector that is erased.
 abbrev pub changes_nothing : Geometry → Content → Op → Bool

@@ -1,13 +1,8 @@
 -- The sections of a course: how many operations each has, and which.
 use Rattle.std.specs.Prelude.{Bool, List, [], drop, flat_map, if◌then◌else◌, map, max, not, ℕ, ◌*◌, ◌+◌, ◌-◌, ◌/◌, ◌∷◌, ◌≡◌}
-use Rattle.mc_boot.specs.Plan.{is_test, number_of, steps, trailer_erases, transfers, write, write_count}
-use Rattle.mc_boot.specs.declared.section.Counted.{Counted}
-use Rattle.mc_boot.specs.declared.section.Section.{Section}
-use Rattle.mc_boot.specs.declared.section.Section.TheVariants.{Nothing, Erases, Flag, Size, Magic, Transfers}
-use Rattle.mc_flash.specs.Geometry.{Geometry, trailer_sectors}
-use Rattle.mc_flash.specs.declared.flash.Grain.{Grain}
-use Rattle.mc_flash.specs.declared.op.Op.{Op}
-use Rattle.mc_flash.specs.declared.op.Op.TheVariants.{Program}
+use Rattle.mc_boot.specs.{Plan.{is_test, number_of, steps, trailer_erases, transfers, write, write_count}, declared.section.Counted.{Counted}}
+use Rattle.mc_boot.specs.{declared.section.Section.{Section}, declared.section.Section.TheVariants.{Nothing, Erases, Flag, Size, Magic, Transfers}}
+use Rattle.mc_flash.specs.{Geometry.{Geometry, trailer_sectors}, declared.flash.Grain.{Grain}, declared.op.Op.{Op}, declared.op.Op.TheVariants.{Program}}
 use Rattle.mc_flash.specs.declared.op.Slot.TheVariants.{Primary, Secondary}
 use Rattle.mc_trailer.specs.Trailer.{magic_bytes, one_unit, place, size_bytes}
 use Rattle.mc_trailer.specs.declared.places.Field.TheVariants as field

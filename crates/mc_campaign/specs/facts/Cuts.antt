@@ -1,8 +1,6 @@
 -- Cuts, each with its round.
 use Rattle.std.specs.Prelude.{◌≡◌, ℕ, zero, suc, ◌+◌, ◌-◌, ◌<◌, ◌≤◌, get_or, nat_lt, if◌then◌else◌, Bool, true, false, List, [], ◌∷◌, ◌++◌, length, refl}
-use Rattle.std.proofs.Common.{arith, inl, inr, sym, ap, subst, ◌∙◌, length-append}
-use Rattle.std.proofs.lemmas.Bool.{cases_lt}
-use Rattle.std.proofs.lemmas.List.{length-map}
+use Rattle.std.proofs.{Common.{arith, inl, inr, sym, ap, subst, ◌∙◌, length-append}, lemmas.Bool.{cases_lt}, lemmas.List.{length-map}}
 use Rattle.mc_tree.specs.Tree.{Tree, RoundNode, round_one, round_two, labels, pairs}
 use Rattle.mc_campaign.specs.Campaigns.{AscendFrom, IsInOrder, in_round}
 

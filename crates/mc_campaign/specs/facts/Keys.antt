@@ -2,18 +2,12 @@
 use Rattle.std.specs.Prelude.{◌≡◌, ◌≤◌, ◌+◌, ◌*◌, ℕ, Bool, refl}
 use Rattle.std.proofs.Common.{arith, ap}
 use Rattle.mc_tree.specs.Tree.{round_one}
-use Rattle.mc_flash.specs.Flash.{Content}
-use Rattle.mc_flash.specs.Geometry.{Geometry}
-use Rattle.mc_flash.specs.Usage.{Seen, Usage, most_operations, most_saved}
-use Rattle.mc_flash.specs.declared.flash.Grain.{Grain}
+use Rattle.mc_flash.specs.{Flash.{Content}, Geometry.{Geometry}, Usage.{Seen, Usage, most_operations, most_saved}, declared.flash.Grain.{Grain}}
 use Rattle.mc_flash.specs.declared.flash.Grain.TheVariants as grains
 use Rattle.mc_start.specs.facts.Room.{limits_are}
 use Rattle.mc_walk.specs.Walks.{IsClear}
-use Rattle.mc_explore.specs.inner.OneRound.{begins}
-use Rattle.mc_explore.specs.inner.Exploring.{AreKeys, LoadsFor}
-use Rattle.mc_campaign.specs.inner.TwoRounds.{cuts_along, rounds, two_rounds_model}
-use Rattle.mc_campaign.specs.Rows.{most_for_row, campaigns}
-use Rattle.mc_campaign.specs.declared.rounds.TwoRounds.{TwoRounds}
+use Rattle.mc_explore.specs.{inner.OneRound.{begins}, inner.Exploring.{AreKeys, LoadsFor}}
+use Rattle.mc_campaign.specs.{inner.TwoRounds.{cuts_along, rounds, two_rounds_model}, Rows.{most_for_row, campaigns}, declared.rounds.TwoRounds.{TwoRounds}}
 use Rattle.mc_campaign.specs.facts.Paths.{listed_along, path_of, same_order}
 
 module _ (t : TwoRounds) (c : Content) where

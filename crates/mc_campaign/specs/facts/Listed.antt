@@ -3,20 +3,12 @@ use Rattle.std.specs.Prelude.{◌≡◌, ℕ, Bool, List, map}
 use Rattle.std.proofs.Common.{refl, sym, ap, subst, ◌∙◌}
 use Rattle.mc_tree.specs.Tree.{IsMember, RoundNode, landed, round_one}
 use Rattle.mc_tree.specs.facts.Existence as existence
-use Rattle.mc_tree.specs.facts.Existence.{AreRows, all_from, all_rest}
-use Rattle.mc_tree.specs.facts.Order.{pairs_in_order}
-use Rattle.mc_flash.specs.Flash.{Content}
-use Rattle.mc_flash.specs.Geometry.{Geometry}
+use Rattle.mc_tree.specs.{facts.Existence.{AreRows, all_from, all_rest}, facts.Order.{pairs_in_order}}
+use Rattle.mc_flash.specs.{Flash.{Content}, Geometry.{Geometry}}
 use Rattle.mc_trailer.specs.declared.tables.Rules.{Rules}
-use Rattle.mc_boot.specs.Restart.{confirmed_if}
-use Rattle.mc_boot.specs.Outcome.{Report, outcome_of, left_by}
-use Rattle.mc_boot.specs.facts.Run.{outcome_defined}
-use Rattle.mc_explore.specs.Pages.{IsLawful}
-use Rattle.mc_explore.specs.Schedules.{IsReplayed}
-use Rattle.mc_explore.specs.Subject.{are_lawful, rows_of}
-use Rattle.mc_boot.specs.Plan.{PowerOn, again, power_on}
-use Rattle.mc_campaign.specs.inner.TwoRounds.{began_at, cuts_along, later_from, rounds}
-use Rattle.mc_campaign.specs.Campaigns.{Precedes, in_round, AreReplayed}
+use Rattle.mc_boot.specs.{Restart.{confirmed_if}, Outcome.{Report, outcome_of, left_by}, facts.Run.{outcome_defined}, Plan.{PowerOn, again, power_on}}
+use Rattle.mc_explore.specs.{Pages.{IsLawful}, Schedules.{IsReplayed}, Subject.{are_lawful, rows_of}}
+use Rattle.mc_campaign.specs.{inner.TwoRounds.{began_at, cuts_along, later_from, rounds}, Campaigns.{Precedes, in_round, AreReplayed}}
 use Rattle.mc_campaign.specs.Rows.{IsRest, IsRow, campaigns, State, ShownRow, HasOutcomes, at_start, end_by}
 use Rattle.mc_campaign.specs.facts.Paths.{listed_along, path_of, replayed_at, same_order, some_same}
 

@@ -4,15 +4,10 @@ use Rattle.std.proofs.Common.{arith, sym, ap, subst, ◌∙◌}
 use Rattle.mc_tree.specs.Tree.{landed, Allowed, RoundNode, round_one, round_two, in_both, pairs, PairsPrecede}
 use Rattle.mc_tree.specs.Tree as tree
 use Rattle.mc_tree.specs.facts.Rounds.{both_allowed, both_first, both_labels, both_length, both_second, first_of, pairs_precede, parts, paths_precede, second_of}
-use Rattle.mc_flash.specs.Geometry.{Geometry}
-use Rattle.mc_flash.specs.Flash.{Content}
+use Rattle.mc_flash.specs.{Geometry.{Geometry}, Flash.{Content}}
 use Rattle.mc_trailer.specs.declared.tables.Rules.{Rules}
-use Rattle.mc_boot.specs.Restart.{confirmed_if}
-use Rattle.mc_boot.specs.Outcome.{Report, outcome_of, after, left_by}
-use Rattle.mc_boot.specs.facts.Run.{left_defined}
-use Rattle.mc_explore.specs.inner.OneRound.{boots, content_or}
-use Rattle.mc_explore.specs.facts.Occurring.{allowed_after, allowed_occurs, occurs_allowed}
-use Rattle.mc_explore.specs.Schedules.{IsReplayed}
+use Rattle.mc_boot.specs.{Restart.{confirmed_if}, Outcome.{Report, outcome_of, after, left_by}, facts.Run.{left_defined}}
+use Rattle.mc_explore.specs.{inner.OneRound.{boots, content_or}, facts.Occurring.{allowed_after, allowed_occurs, occurs_allowed}, Schedules.{IsReplayed}}
 use Rattle.mc_explore.specs.Schedules as schedules
 use Rattle.mc_campaign.specs.Campaigns.{AreReplayed, CanOccur, IsMember, Precedes, in_round}
 use Rattle.mc_campaign.specs.inner.TwoRounds.{IsPathOf, began_at, cuts_along, later_from, rounds, second_start}

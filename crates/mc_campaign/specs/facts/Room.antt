@@ -1,7 +1,6 @@
 -- At most 16 cuts in fixed room: the cuts stand first, and blanks fill the rest.
 use Rattle.std.specs.Prelude.{◌≡◌, ℕ, ◌-◌, ◌≤◌, List, ◌++◌, length, take, drop, replicate}
-use Rattle.std.proofs.Common.{arith}
-use Rattle.std.proofs.lemmas.List.{take-append-drop, length-take-le}
+use Rattle.std.proofs.{Common.{arith}, lemmas.List.{take-append-drop, length-take-le}}
 
 abbrev pub blanks_after : ℕ → List (ℕ × ℕ)
 blanks_after n = replicate (16 - n) (0, 0)

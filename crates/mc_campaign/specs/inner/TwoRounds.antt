@@ -1,22 +1,13 @@
 -- The tree of two rounds of boots, and how a walk goes through it.
 use Rattle.std.proofs.Common.{arith, subst, sym}
 use Rattle.std.specs.Prelude.{Bool, List, length, refl, ℕ, ◌-◌, ◌<◌, ◌≡◌, ◌≤◌}
-use Rattle.mc_boot.specs.Boot.{left_of, progress}
-use Rattle.mc_boot.specs.Outcome.{left_by, ops_of}
-use Rattle.mc_boot.specs.Plan.{PowerOn, power_on}
-use Rattle.mc_boot.specs.Restart.{confirmed_if, one_write}
+use Rattle.mc_boot.specs.{Boot.{left_of, progress}, Outcome.{left_by, ops_of}, Plan.{PowerOn, power_on}, Restart.{confirmed_if, one_write}}
 use Rattle.mc_boot.specs.declared.boot.Boot.{Boot}
-use Rattle.mc_campaign.specs.declared.campaign.Round.{Round}
-use Rattle.mc_campaign.specs.declared.rounds.Both.{Both}
-use Rattle.mc_campaign.specs.declared.rounds.ChildBoot.{ChildBoot}
-use Rattle.mc_explore.specs.declared.one_round.Summary.{Summary}
-use Rattle.mc_explore.specs.inner.OneRound.{HasMade, IsSummary, boots, content_or, most_of}
-use Rattle.mc_flash.specs.Flash.{Content}
-use Rattle.mc_flash.specs.Geometry.{Geometry}
-use Rattle.mc_flash.specs.Usage.{Counts, LeaveRoom, no_counts, plus}
+use Rattle.mc_campaign.specs.{declared.campaign.Round.{Round}, declared.rounds.Both.{Both}, declared.rounds.ChildBoot.{ChildBoot}}
+use Rattle.mc_explore.specs.{declared.one_round.Summary.{Summary}, inner.OneRound.{HasMade, IsSummary, boots, content_or, most_of}}
+use Rattle.mc_flash.specs.{Flash.{Content}, Geometry.{Geometry}, Usage.{Counts, LeaveRoom, no_counts, plus}}
 use Rattle.mc_trailer.specs.declared.tables.Rules.{Rules}
-use Rattle.mc_tree.specs.Tree.{RoundNode, Tree, round_one, labels, round_two, two_rounds}
-use Rattle.mc_tree.specs.facts.Rounds.{child_second}
+use Rattle.mc_tree.specs.{Tree.{RoundNode, Tree, round_one, labels, round_two, two_rounds}, facts.Rounds.{child_second}}
 use Rattle.mc_walk.specs.TreeModel.{TreeModel}
 use Rattle.mc_campaign.specs.declared.campaign.Round.TheVariants as rounds_of
 use Rattle.mc_tree.specs.Tree as tree

@@ -1,12 +1,9 @@
 -- A walk through two rounds, along the path of a campaign.
 use Rattle.std.specs.Prelude.{Bool, List, Option, Some, false, true, ℕ, ◌<◌, ◌↔◌, ◌≡◌}
 use Rattle.mc_boot.specs.Plan.{PowerOn}
-use Rattle.mc_campaign.specs.Campaigns.{IsMember}
-use Rattle.mc_campaign.specs.declared.rounds.TwoRounds.{TwoRounds}
-use Rattle.mc_campaign.specs.inner.TwoRounds.{IsPathOf, rounds, second_start, two_rounds_model}
+use Rattle.mc_campaign.specs.{Campaigns.{IsMember}, declared.rounds.TwoRounds.{TwoRounds}, inner.TwoRounds.{IsPathOf, rounds, second_start, two_rounds_model}}
 use Rattle.mc_explore.specs.inner.OneRound.{begins, boots}
-use Rattle.mc_flash.specs.Flash.{Content}
-use Rattle.mc_flash.specs.Geometry.{Geometry}
+use Rattle.mc_flash.specs.{Flash.{Content}, Geometry.{Geometry}}
 use Rattle.mc_trailer.specs.declared.tables.Rules.{Rules}
 use Rattle.mc_tree.specs.Tree.{RoundNode, label}
 use Rattle.mc_walk.specs.Walks.{IsPath, IsSame, Walked, origin_of}

@@ -1,12 +1,9 @@
 -- A walk that goes to the children of a node, one after another.
-use Rattle.std.proofs.Common.{List, [], arith, length, length-append, subst, suc, sym, true, ℕ, ◌++◌, ◌<◌, ◌∙◌, ◌∷◌, ◌≡◌}
-use Rattle.std.proofs.lemmas.List.{same_from_push}
+use Rattle.std.proofs.{Common.{List, [], arith, length, length-append, subst, suc, sym, true, ℕ, ◌++◌, ◌<◌, ◌∙◌, ◌∷◌, ◌≡◌}, lemmas.List.{same_from_push}}
 use Rattle.mc_explore.specs.inner.Table.{CanPass, HasSameLimits, Passed, ReachesChild}
 use Rattle.mc_flash.specs.Flash.{Content}
-use Rattle.mc_tree.specs.Tree.{Allowed, Beyond, landed}
-use Rattle.mc_tree.specs.facts.Order.{HasPassed, allowed-push, landed-push}
-use Rattle.mc_walk.specs.TreeModel.{HasWidth, IsChildOf, TreeModel}
-use Rattle.mc_walk.specs.Walks.{IsLastStep, IsPath, IsSame, IsThere, Walked, origin_of, root_of}
+use Rattle.mc_tree.specs.{Tree.{Allowed, Beyond, landed}, facts.Order.{HasPassed, allowed-push, landed-push}}
+use Rattle.mc_walk.specs.{TreeModel.{HasWidth, IsChildOf, TreeModel}, Walks.{IsLastStep, IsPath, IsSame, IsThere, Walked, origin_of, root_of}}
 use Rattle.mc_walk.specs.declared.frame.Frame.{Frame}
 
 module _ {N A T B : Type 0} (k : TreeModel N A T) where

@@ -1,15 +1,11 @@
 -- Schedules are the paths of the tree of boots.
 use Rattle.std.specs.Prelude.{◌≡◌, ◌≤◌, ◌+◌, ◌*◌, ℕ, Bool, refl}
 use Rattle.std.proofs.Common.{arith, ap}
-use Rattle.mc_flash.specs.Flash.{Content}
-use Rattle.mc_flash.specs.Usage.{Seen, Usage, most_operations, most_saved}
+use Rattle.mc_flash.specs.{Flash.{Content}, Usage.{Seen, Usage, most_operations, most_saved}}
 use Rattle.mc_start.specs.facts.Room.{limits_are}
 use Rattle.mc_walk.specs.Walks.{IsClear}
-use Rattle.mc_explore.specs.inner.OneRound.{boots, begins, one_round}
-use Rattle.mc_explore.specs.Rows.{most_for_row, subject}
-use Rattle.mc_explore.specs.declared.one_round.OneRound.{OneRound}
-use Rattle.mc_explore.specs.facts.Occurring.{member_of, path_of}
-use Rattle.mc_explore.specs.inner.Exploring.{AreKeys, LoadsFor}
+use Rattle.mc_explore.specs.{inner.OneRound.{boots, begins, one_round}, Rows.{most_for_row, subject}, declared.one_round.OneRound.{OneRound}}
+use Rattle.mc_explore.specs.{facts.Occurring.{member_of, path_of}, inner.Exploring.{AreKeys, LoadsFor}}
 
 pub are_schedules : (o : OneRound) (c : Content) → AreKeys subject (boots o.rules o.layout) c (begins o c) tt (λ path. path)
 are_schedules o c = record {

@@ -1,18 +1,14 @@
 -- The rows of schedules are listed as those of a tree.
 use Rattle.std.proofs.Common.{◌≡◌, ℕ, List, map, Option, Some, option_and_then, refl, ap, ◌∙◌}
 use Rattle.mc_flash.specs.Flash.{Content}
-use Rattle.mc_boot.specs.facts.Run.{outcome_defined}
-use Rattle.mc_boot.specs.Outcome.{Report, outcome_of}
+use Rattle.mc_boot.specs.{facts.Run.{outcome_defined}, Outcome.{Report, outcome_of}}
 use Rattle.mc_tree.specs.Tree.{landed, Allowed, Precedes}
 use Rattle.mc_tree.specs.facts.Existence as existence
-use Rattle.mc_tree.specs.facts.Existence.{AreRows, all_from, all_rest}
-use Rattle.mc_tree.specs.facts.Order.{paths_in_order}
-use Rattle.mc_explore.specs.inner.OneRound.{boots}
-use Rattle.mc_explore.specs.Pages.{IsLawful}
-use Rattle.mc_explore.specs.Rows.{IsRow, IsRest, schedules, subject, State, ShownRow, HasOutcome, at_start, outcome_after}
-use Rattle.mc_explore.specs.Subject.{are_lawful}
-use Rattle.mc_boot.specs.Plan.{PowerOn, again}
+use Rattle.mc_tree.specs.{facts.Existence.{AreRows, all_from, all_rest}, facts.Order.{paths_in_order}}
+use Rattle.mc_explore.specs.{inner.OneRound.{boots}, Pages.{IsLawful}}
+use Rattle.mc_explore.specs.{Rows.{IsRow, IsRest, schedules, subject, State, ShownRow, HasOutcome, at_start, outcome_after}, Subject.{are_lawful}}
 use Rattle.mc_explore.specs.facts.Occurring.{allowed_after, member_of, path_of}
+use Rattle.mc_boot.specs.Plan.{PowerOn, again}
 
 one_outcome : (a b : List ℕ) (x y : Report) (o : List ℕ → Option Report) → a ≡ b → o a ≡ Some x → o b ≡ Some y → x ≡ y
 one_outcome a b x y o e p q = let f : o a ≡ o b = ap o e in cc

@@ -2,9 +2,7 @@
 use Rattle.std.specs.Prelude.{◌≡◌, ℕ, ◌<◌, nat_lt, Bool, true, is_some, if◌then◌else◌, List, [], ◌∷◌, length, Option, Some, None, option_and_then, refl}
 use Rattle.std.proofs.Common.{arith, sym, ap, ◌∙◌}
 use Rattle.mc_flash.specs.Flash.{Content}
-use Rattle.mc_boot.specs.Plan.{plan, PowerOn, again}
-use Rattle.mc_boot.specs.Outcome.{ops_of, at, cut_at, after}
-use Rattle.mc_boot.specs.Boot.{Progress, begun, HasCome}
+use Rattle.mc_boot.specs.{Plan.{plan, PowerOn, again}, Outcome.{ops_of, at, cut_at, after}, Boot.{Progress, begun, HasCome}}
 use Rattle.mc_boot.specs.facts.Run.{at_defined, come_begun, come_at}
 use Rattle.mc_explore.specs.Schedules.{CanOccur, IsMember}
 use Rattle.mc_tree.specs.Tree.{landed, Allowed}

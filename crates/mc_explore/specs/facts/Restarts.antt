@@ -1,19 +1,14 @@
 -- What the restart law says of the boot after the cuts is its outcome.
 use Rattle.std.specs.Prelude.{◌≡◌, ℕ, List, [], ◌∷◌, length, Some, refl}
 use Rattle.std.proofs.Common.{arith, ap, subst}
-use Rattle.mc_flash.specs.Geometry.{Geometry}
-use Rattle.mc_flash.specs.Flash.{Content}
-use Rattle.mc_flash.specs.declared.op.Op.{Op}
+use Rattle.mc_flash.specs.{Geometry.{Geometry}, Flash.{Content}, declared.op.Op.{Op}}
 use Rattle.mc_image.specs.Valid.{id_of}
 use Rattle.mc_trailer.specs.declared.tables.Rules.{Rules}
 use Rattle.mc_boot.specs.declared.outcome.BootResult.TheVariants as results
-use Rattle.mc_boot.specs.Outcome.{Report, report, outcome_of, after, left_by, ops_of, happening}
-use Rattle.mc_boot.specs.Plan.{plan, PowerOn, again, power_on}
-use Rattle.mc_boot.specs.Restart.{EndsIn, IsSwapped, named, other}
-use Rattle.mc_boot.specs.declared.kind.Kind.{Kind}
+use Rattle.mc_boot.specs.{Outcome.{Report, report, outcome_of, after, left_by, ops_of, happening}, Plan.{plan, PowerOn, again, power_on}}
+use Rattle.mc_boot.specs.{Restart.{EndsIn, IsSwapped, named, other}, declared.kind.Kind.{Kind}}
 use Rattle.mc_boot.specs.declared.kind.Kind.TheVariants as starts
-use Rattle.mc_explore.specs.Schedules.{IsSwapOutcome}
-use Rattle.mc_explore.specs.facts.Summaries.{outcome_ops}
+use Rattle.mc_explore.specs.{Schedules.{IsSwapOutcome}, facts.Summaries.{outcome_ops}}
 
 -- Where the boot from u leaves z, the outcome's slots and next type are those of z.
 pub summary_slots : (x : PowerOn) (z : Content) (o : Report) → outcome_of x ≡ Some o → left_by x ≡ Some z

@@ -1,16 +1,10 @@
 -- The summary of a flash, and where the boot from there begins.
 use Rattle.std.specs.Prelude.{◌≡◌, ℕ, length, Option, Some, None}
 use Rattle.std.proofs.Common.{arith}
-use Rattle.mc_flash.specs.Flash.{Content}
-use Rattle.mc_flash.specs.Geometry.{Geometry}
-use Rattle.mc_flash.specs.Usage.{Counts, LeaveRoom, plus}
+use Rattle.mc_flash.specs.{Flash.{Content}, Geometry.{Geometry}, Usage.{Counts, LeaveRoom, plus}}
 use Rattle.mc_trailer.specs.declared.tables.Rules.{Rules}
-use Rattle.mc_boot.specs.Boot.{progress, left_of}
-use Rattle.mc_boot.specs.Outcome.{Report, outcome_of, report, shown, ops_of}
-use Rattle.mc_boot.specs.Plan.{PowerOn, power_on}
-use Rattle.mc_explore.specs.inner.OneRound.{HasMade, IsSummary, most_of}
-use Rattle.mc_explore.specs.declared.one_round.Summary.{Summary}
-use Rattle.mc_explore.specs.facts.Occurring.{at_zero}
+use Rattle.mc_boot.specs.{Boot.{progress, left_of}, Outcome.{Report, outcome_of, report, shown, ops_of}, Plan.{PowerOn, power_on}}
+use Rattle.mc_explore.specs.{inner.OneRound.{HasMade, IsSummary, most_of}, declared.one_round.Summary.{Summary}, facts.Occurring.{at_zero}}
 
 count_in : Option Report → ℕ
 count_in None = 0

@@ -1,13 +1,8 @@
 -- Where the flashes after a cut lie among those of the boot that was cut, as nodes of the tree.
 use Rattle.std.proofs.Common.{ap, arith, length, sym, ℕ, ◌+◌, ◌<◌, ◌∙◌, ◌≡◌, ◌≤◌}
-use Rattle.mc_boot.specs.Outcome.{ops_of}
-use Rattle.mc_boot.specs.Plan.{power_on}
-use Rattle.mc_boot.specs.SharedTail.{IsSharedTail, index_in_parent}
-use Rattle.mc_boot.specs.declared.shared_tail.SharedTail.{SharedTail}
-use Rattle.mc_explore.specs.facts.Occurring.{at_is, lands_at}
-use Rattle.mc_explore.specs.inner.OneRound.{at_cut, boots}
-use Rattle.mc_flash.specs.Flash.{Content}
-use Rattle.mc_flash.specs.Geometry.{Geometry}
+use Rattle.mc_boot.specs.{Outcome.{ops_of}, Plan.{power_on}, SharedTail.{IsSharedTail, index_in_parent}, declared.shared_tail.SharedTail.{SharedTail}}
+use Rattle.mc_explore.specs.{facts.Occurring.{at_is, lands_at}, inner.OneRound.{at_cut, boots}}
+use Rattle.mc_flash.specs.{Flash.{Content}, Geometry.{Geometry}}
 use Rattle.mc_trailer.specs.declared.tables.Rules.{Rules}
 use Rattle.mc_tree.specs.inner.Weights.{IsShared, Weighing}
 

@@ -1,10 +1,7 @@
 -- A page of all rows to come.
-use Rattle.std.specs.Prelude.{zero, nat_le, if◌then◌else◌, true, false, ◌∷◌, ◌<◌, All}
+use Rattle.std.specs.{Prelude.{zero, nat_le, if◌then◌else◌, true, false, ◌∷◌, ◌<◌, All}, Io.KnownBytes.{Appends}}
 use Rattle.std.proofs.Common.{◌≡◌, ℕ, suc, ◌≤◌, List, [], ◌++◌, length, drop, None, Option, refl, sym, ap, subst, ◌∙◌, append-nil, arith, inl, inr}
-use Rattle.std.proofs.lemmas.Bool.{cases_lt}
-use Rattle.std.proofs.lemmas.Bool.Decides.{nat_tests}
-use Rattle.std.proofs.lemmas.List.Elements.{All-head}
-use Rattle.std.specs.Io.KnownBytes.{Appends}
+use Rattle.std.proofs.{lemmas.Bool.{cases_lt}, lemmas.Bool.Decides.{nat_tests}, lemmas.List.Elements.{All-head}}
 use Rattle.mc_output.specs.Text.{AppendsPrefix}
 use Rattle.mc_explore.specs.Pages.{Listing, IsRest, Page, IsBefore, AreBefore, rows_taken, TakesPage, ShownIsOut, ShownBegan, PageIsOut, PageBegan, page_at, page_text, state_past}
 

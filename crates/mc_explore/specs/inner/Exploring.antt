@@ -2,17 +2,12 @@
 -- all seen.
 use Rattle.std.specs.Prelude.{Bool, Err, IfSome, List, None, Ok, Option, Result, Some, [], false, length, suc, true, zero, ℕ, ◌++◌, ◌+◌, ◌^◌, ◌↔◌, ◌∷◌, ◌≡◌, ◌≢◌, ◌≤◌}
 use Rattle.mc_boot.specs.Plan.{PowerOn}
-use Rattle.mc_explore.specs.Subject.{Explored, IsRowAt, State, Subject}
-use Rattle.mc_explore.specs.declared.ahead.RowsAhead.{RowsAhead}
-use Rattle.mc_flash.specs.Flash.{Content}
-use Rattle.mc_flash.specs.Geometry.{IsLayout}
-use Rattle.mc_flash.specs.Usage.{Loads, RanOut, Seen, Spent}
+use Rattle.mc_explore.specs.{Subject.{Explored, IsRowAt, State, Subject}, declared.ahead.RowsAhead.{RowsAhead}}
+use Rattle.mc_flash.specs.{Flash.{Content}, Geometry.{IsLayout}, Usage.{Loads, RanOut, Seen, Spent}}
 use Rattle.mc_tree.specs.Tree.{After, IsNext, IsOver, Position, Precedes, Tree, landed}
 use Rattle.mc_walk.specs.TreeModel.{TreeModel}
 use Rattle.mc_walk.specs.Walks.{IsFresh, IsPath, IsSame, StandsAt, StandsBeyond, Toured, Walked, child_cost, origin_of, position_of, root_of}
-use Rattle.mc_walk.specs.declared.tour.Phase.{Phase}
-use Rattle.mc_walk.specs.declared.tour.Phase.TheVariants.{Broken, Done, Fresh, Going}
-use Rattle.mc_walk.specs.declared.tour.TourError.{TourError}
+use Rattle.mc_walk.specs.{declared.tour.Phase.{Phase}, declared.tour.Phase.TheVariants.{Broken, Done, Fresh, Going}, declared.tour.TourError.{TourError}}
 use Rattle.mc_walk.specs.declared.tour.TourError.TheVariants as errors
 use Rattle.mc_tree.specs.Tree as tree
 

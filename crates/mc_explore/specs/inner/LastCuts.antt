@@ -1,9 +1,6 @@
 -- The schedules of the most cuts: the outcomes after their last cuts are found among those at the cuts of another boot.
 use Rattle.std.specs.Prelude.{List, Some, [], length, slice_get, ℕ, ◌++◌, ◌^◌, ◌∷◌, ◌≡◌, ◌≤◌}
-use Rattle.mc_boot.specs.Outcome.{ops_of, outcome_of, shown}
-use Rattle.mc_boot.specs.Plan.{PowerOn, again}
-use Rattle.mc_boot.specs.SharedTail.{IsSharedTail}
-use Rattle.mc_boot.specs.declared.outcome.Outcome.{Outcome}
+use Rattle.mc_boot.specs.{Outcome.{ops_of, outcome_of, shown}, Plan.{PowerOn, again}, SharedTail.{IsSharedTail}, declared.outcome.Outcome.{Outcome}}
 use Rattle.mc_boot.specs.declared.shared_tail.SharedTail.{SharedTail}
 use Rattle.mc_explore.specs.inner.OneRound.{at_cut, boots}
 use Rattle.mc_flash.specs.Flash.{Content}

@@ -1,22 +1,16 @@
 -- The tree of boots that are cut, and how a walk goes through it.
 use Rattle.std.proofs.Common.{arith}
 use Rattle.std.specs.Prelude.{Err, List, None, Ok, Option, Result, Some, [], length, refl, ℕ, ◌+◌, ◌<◌, ◌∷◌, ◌≡◌}
-use Rattle.mc_boot.specs.Boot.{HasCome, IsBootOf, IsBounded, IsCold, all_of, begun, left_of, progress}
-use Rattle.mc_boot.specs.Outcome.{at, left_by, ops_of, outcome_of, shown}
-use Rattle.mc_boot.specs.Plan.{PowerOn, again, plan, power_on}
-use Rattle.mc_boot.specs.SharedTail.{IsSharedTail}
-use Rattle.mc_boot.specs.declared.boot.Boot.{Boot}
+use Rattle.mc_boot.specs.{Boot.{HasCome, IsBootOf, IsBounded, IsCold, all_of, begun, left_of, progress}, Outcome.{at, left_by, ops_of, outcome_of, shown}}
+use Rattle.mc_boot.specs.{Plan.{PowerOn, again, plan, power_on}, SharedTail.{IsSharedTail}, declared.boot.Boot.{Boot}}
 use Rattle.mc_boot.specs.declared.shared_tail.SharedTail.{SharedTail}
-use Rattle.mc_explore.specs.declared.one_round.OneRound.{OneRound}
-use Rattle.mc_explore.specs.declared.one_round.Summary.{Summary}
-use Rattle.mc_flash.specs.Flash.{Content, IsSized}
-use Rattle.mc_flash.specs.Geometry.{Geometry}
+use Rattle.mc_explore.specs.{declared.one_round.OneRound.{OneRound}, declared.one_round.Summary.{Summary}}
+use Rattle.mc_flash.specs.{Flash.{Content, IsSized}, Geometry.{Geometry}}
 use Rattle.mc_flash.specs.Usage.{Allows, Counts, Keeps, LeaveRoom, Seen, most_operations, most_saved, no_counts, plus}
 use Rattle.mc_image.specs.Image.{IsBytes}
 use Rattle.mc_trailer.specs.declared.tables.Rules.{Rules}
 use Rattle.mc_tree.specs.Tree.{Tree}
-use Rattle.mc_walk.specs.TreeModel.{IsAt, TreeModel}
-use Rattle.mc_walk.specs.Walks.{Walked, origin_of}
+use Rattle.mc_walk.specs.{TreeModel.{IsAt, TreeModel}, Walks.{Walked, origin_of}}
 
 -- The tree of boots that are cut. A cut that can't occur is that of no child, and of it the tree says nothing.
 

@@ -1,24 +1,13 @@
 -- The totals of the nodes below a node, for each bound, and how a walk passes them.
-use Rattle.std.specs.List.{slice_get}
-use Rattle.std.specs.Prelude.{List, Some, [], length, suc, true, zero, ℕ, ◌++◌, ◌+◌, ◌-◌, ◌<◌, ◌∷◌, ◌≡◌, ◌≤◌, ◌⊎◌}
-use Rattle.mc_boot.specs.Outcome.{Report, shown}
-use Rattle.mc_boot.specs.declared.outcome.Outcome.{Outcome}
-use Rattle.mc_boot.specs.SharedTail.{index_in_parent}
+use Rattle.std.specs.{List.{slice_get}, Prelude.{List, Some, [], length, suc, true, zero, ℕ, ◌++◌, ◌+◌, ◌-◌, ◌<◌, ◌∷◌, ◌≡◌, ◌≤◌, ◌⊎◌}}
+use Rattle.mc_boot.specs.{Outcome.{Report, shown}, declared.outcome.Outcome.{Outcome}, SharedTail.{index_in_parent}}
 use Rattle.mc_boot.specs.declared.shared_tail.SharedTail.{SharedTail}
-use Rattle.mc_explore.specs.Right.{judged}
-use Rattle.mc_explore.specs.declared.census.CensusOf.{CensusOf}
-use Rattle.mc_explore.specs.declared.expectation.Expectation.{Expectation}
-use Rattle.mc_explore.specs.declared.table.Below.{Below}
-use Rattle.mc_explore.specs.declared.table.Below.TheVariants.{Apart, Joined}
-use Rattle.mc_explore.specs.declared.table.Level.{Level}
-use Rattle.mc_explore.specs.declared.table.Run.{Run}
+use Rattle.mc_explore.specs.{Right.{judged}, declared.census.CensusOf.{CensusOf}, declared.expectation.Expectation.{Expectation}, declared.table.Below.{Below}}
+use Rattle.mc_explore.specs.{declared.table.Below.TheVariants.{Apart, Joined}, declared.table.Level.{Level}, declared.table.Run.{Run}}
 use Rattle.mc_explore.specs.inner.Totals.{Totals, merged, cut_off, no_totals, report_totals, totals}
 use Rattle.mc_flash.specs.Flash.{Content}
-use Rattle.mc_tree.specs.Tree.{Allowed, Beyond, Tree}
-use Rattle.mc_tree.specs.facts.Order.{HasPassed}
-use Rattle.mc_tree.specs.inner.Weights.{IsShared, from, path_tree, shared_below, weight}
-use Rattle.mc_walk.specs.TreeModel.{TreeModel}
-use Rattle.mc_walk.specs.Walks.{IsPath, IsSame, Walked, origin_of, root_of}
+use Rattle.mc_tree.specs.{Tree.{Allowed, Beyond, Tree}, facts.Order.{HasPassed}, inner.Weights.{IsShared, from, path_tree, shared_below, weight}}
+use Rattle.mc_walk.specs.{TreeModel.{TreeModel}, Walks.{IsPath, IsSame, Walked, origin_of, root_of}}
 
 -- The censuses of the children of one node.
 

@@ -1,11 +1,7 @@
 -- What paths come to, each by how it ends: in exact numbers, as weights of a tree, and cut off.
-use Rattle.std.specs.Option.{option_or}
-use Rattle.std.specs.Prelude.{List, None, Option, Some, [], if◌then◌else◌, max, option_map, take, ℕ, ◌+◌, ◌∷◌}
+use Rattle.std.specs.{Option.{option_or}, Prelude.{List, None, Option, Some, [], if◌then◌else◌, max, option_map, take, ℕ, ◌+◌, ◌∷◌}}
 use Rattle.mc_boot.specs.Outcome.{Report}
-use Rattle.mc_explore.specs.Census.{cut_number}
-use Rattle.mc_explore.specs.Rows.{ShownRow}
-use Rattle.mc_explore.specs.Survey.{count_if, is_boot, is_fault, is_none, is_panic}
-use Rattle.mc_explore.specs.declared.census.CensusOf.{CensusOf}
+use Rattle.mc_explore.specs.{Census.{cut_number}, Rows.{ShownRow}, Survey.{count_if, is_boot, is_fault, is_none, is_panic}, declared.census.CensusOf.{CensusOf}}
 use Rattle.mc_start.specs.Start.{lowered}
 use Rattle.mc_tree.specs.inner.Weights.{Weighing}
 

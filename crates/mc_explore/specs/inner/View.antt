@@ -1,10 +1,8 @@
 -- Walks from a start.
 use Rattle.std.specs.Prelude.{Bool, IfSome, List, Option, false, true, ℕ, ◌*◌, ◌+◌, ◌≡◌, ◌≤◌}
 use Rattle.mc_boot.specs.Plan.{PowerOn}
-use Rattle.mc_explore.specs.declared.one_round.OneRound.{OneRound}
-use Rattle.mc_explore.specs.inner.OneRound.{begins, begun_of, boots, one_round}
-use Rattle.mc_flash.specs.Geometry.{IsLayout}
-use Rattle.mc_flash.specs.Usage.{most_operations}
+use Rattle.mc_explore.specs.{declared.one_round.OneRound.{OneRound}, inner.OneRound.{begins, begun_of, boots, one_round}}
+use Rattle.mc_flash.specs.{Geometry.{IsLayout}, Usage.{most_operations}}
 use Rattle.mc_start.specs.Start.{start_digest}
 use Rattle.mc_walk.specs.Walks.{IsFresh, Walked}
 use Rattle.mc_tree.specs.Tree as tree

@@ -1,15 +1,11 @@
 -- What an operation changes and what it keeps, byte by byte. Proved here, so that the crates above can cite it.
-use Rattle.std.proofs.Common.{arith, ◌∙◌}
-use Rattle.std.proofs.lemmas.Bool.Decides.{nat_tests}
-use Rattle.std.proofs.lemmas.Grind.{common_steps}
+use Rattle.std.proofs.{Common.{arith, ◌∙◌}, lemmas.Bool.Decides.{nat_tests}, lemmas.Grind.{common_steps}}
 use Rattle.std.proofs.lemmas.List.{get_or-append_right, get_or-drop, get_or-take, get_or_append_left, length-replicate, length-take-le}
 use Rattle.std.proofs.lemmas.List.Edits.{get_or-between, length-between}
 use Rattle.std.specs.List.{between}
 use Rattle.std.specs.Prelude.{Bool, List, None, Option, Some, [], false, length, refl, replicate, slice_index, suc, true, zero, ℕ, ◌&&◌, ◌*◌, ◌+◌, ◌<◌, ◌==◌, ◌∷◌, ◌≡◌, ◌≢◌, ◌≤◌}
-use Rattle.mc_flash.specs.Flash.{Content, IsSized, apply, byte, bytes_of, in_slot, is_blank, programmed, put, size_of, with_bytes}
-use Rattle.mc_flash.specs.Geometry.{Geometry}
-use Rattle.mc_flash.specs.declared.op.Slot.{Slot}
-use Rattle.mc_flash.specs.declared.op.Slot.TheVariants.{Primary, Secondary}
+use Rattle.mc_flash.specs.{Flash.{Content, IsSized, apply, byte, bytes_of, in_slot, is_blank, programmed, put, size_of, with_bytes}, Geometry.{Geometry}}
+use Rattle.mc_flash.specs.{declared.op.Slot.{Slot}, declared.op.Slot.TheVariants.{Primary, Secondary}}
 use Rattle.mc_flash.specs.declared.op.Op.TheVariants as ops
 
 pub length-put : (xs new : List ℕ) (at : ℕ) → at + length new ≤ length xs → length (put xs at new) ≡ length xs

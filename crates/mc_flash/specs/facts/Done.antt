@@ -1,8 +1,7 @@
 -- An operation of a flash, by what it does to the content.
 use Rattle.std.proofs.Common.{◌≡◌, refl, sym, ap, ◌∙◌, inl, inr}
 use Rattle.std.specs.Prelude.{Option, Some, None, option_map, Result, Ok, Err}
-use Rattle.mc_flash.specs.Flash.{apply, Content}
-use Rattle.mc_flash.specs.Usage.{IsFull, noted, Seen, Does, GivesUp, Keeps, done, with_content}
+use Rattle.mc_flash.specs.{Flash.{apply, Content}, Usage.{IsFull, noted, Seen, Does, GivesUp, Keeps, done, with_content}}
 use Rattle.mc_flash.specs.declared.flash.FlashError.{FlashError}
 use Rattle.mc_flash.specs.declared.flash.FlashError.TheVariants as errors
 use Rattle.mc_flash.specs.declared.op.Op.{Op}

@@ -1,17 +1,11 @@
 -- What follows from the facts of a layout: where the trailer lies, what is a whole number of units, and which sectors hold
 -- data. Proved here, so that the crates above can cite it.
-use Rattle.std.specs.Prelude.{◌≡◌, ℕ, ◌+◌, ◌-◌, ◌*◌, ◌/◌, ◌%◌, ◌<◌, ◌≤◌, min, ℤ, pos, int_le, true}
-use Rattle.std.specs.Int.{div_ceil}
-use Rattle.std.proofs.Common.{arith, sym, ap, ◌∙◌}
-use Rattle.std.proofs.lemmas.Bool.{leb-true}
-use Rattle.std.proofs.lemmas.Int.{ints, clamps}
-use Rattle.std.proofs.lemmas.Grind.{div_ceil_times}
+use Rattle.std.specs.{Prelude.{◌≡◌, ℕ, ◌+◌, ◌-◌, ◌*◌, ◌/◌, ◌%◌, ◌<◌, ◌≤◌, min, ℤ, pos, int_le, true}, Int.{div_ceil}}
+use Rattle.std.proofs.{Common.{arith, sym, ap, ◌∙◌}, lemmas.Bool.{leb-true}, lemmas.Int.{ints, clamps}, lemmas.Grind.{div_ceil_times}}
 use Rattle.std.proofs.Math.Nat.{mul-le-mul_right, dvd_of_mod-eq-zero, dvd-add, dvd-sub, dvd-mul_left_of_dvd, dvd-mul_left, dvd_trans, mod-add-div'}
 use Rattle.std.proofs.lemmas.Nat.Gcd.{mod-eq-zero_of_dvd}
 use Rattle.mc_flash.specs.Geometry.{Geometry, IsLayout, trailer_bytes, trailer_sectors, count_beside, greatest_count, greatest_sectors, fits}
-use Rattle.mc_flash.specs.Flash.{sectors_of, size_of}
-use Rattle.mc_flash.specs.declared.op.Slot.{Slot}
-use Rattle.mc_flash.specs.declared.op.Slot.TheVariants.{Primary, Secondary}
+use Rattle.mc_flash.specs.{Flash.{sectors_of, size_of}, declared.op.Slot.{Slot}, declared.op.Slot.TheVariants.{Primary, Secondary}}
 
 -- the trailer lies in its sectors
 pub trailer_covered : (g : Geometry) → IsLayout g → trailer_bytes g ≤ trailer_sectors g * g.sector

@@ -1,13 +1,8 @@
 -- The layout by the pieces in which a sector is copied is one, too.
 use Rattle.std.proofs.Math.Nat.{mod_self}
 use Rattle.std.specs.Prelude.{length, ℕ, ◌<◌}
-use Rattle.mc_flash.specs.Flash.{CanTry, IsRange, sectors_of}
-use Rattle.mc_flash.specs.Geometry.{Geometry, IsLayout, in_pieces}
-use Rattle.mc_flash.specs.declared.flash.Grain.{Grain}
-use Rattle.mc_flash.specs.declared.op.Op.{Op}
-use Rattle.mc_flash.specs.declared.op.Op.TheVariants.{Copy, Erase, Program}
-use Rattle.mc_flash.specs.declared.op.Slot.{Slot}
-use Rattle.mc_flash.specs.declared.op.Slot.TheVariants.{Primary, Secondary}
+use Rattle.mc_flash.specs.{Flash.{CanTry, IsRange, sectors_of}, Geometry.{Geometry, IsLayout, in_pieces}, declared.flash.Grain.{Grain}, declared.op.Op.{Op}}
+use Rattle.mc_flash.specs.{declared.op.Op.TheVariants.{Copy, Erase, Program}, declared.op.Slot.{Slot}, declared.op.Slot.TheVariants.{Primary, Secondary}}
 use Rattle.mc_flash.specs.facts.Layouts.{small_unit, whole_sector}
 use Rattle.mc_flash.specs.declared.flash.Grain.TheVariants as grains
 

@@ -1,9 +1,7 @@
 -- What follows for what calls spend. Proved here, so that the crates above can cite it.
 use Rattle.std.specs.Prelude.{◌≡◌, ℕ, ◌+◌, ◌<◌, ◌≤◌, Bool, true, false, length, Some, Result, Ok, Err, refl}
-use Rattle.std.proofs.Common.{arith, inl, inr, sym, ap, subst, ◌∙◌}
-use Rattle.std.proofs.lemmas.List.{get_or_at, take_at}
-use Rattle.mc_flash.specs.facts.Done.{did}
-use Rattle.mc_flash.specs.Geometry.{Geometry}
+use Rattle.std.proofs.{Common.{arith, inl, inr, sym, ap, subst, ◌∙◌}, lemmas.List.{get_or_at, take_at}}
+use Rattle.mc_flash.specs.{facts.Done.{did}, Geometry.{Geometry}}
 use Rattle.mc_flash.specs.Usage.{Usage, Limits, noted_by, saves, Seen, GivesUp, NoMarkFits, Keeps, Marks, done, marked, went_back, Spent, RanOut, Spends, Stays}
 use Rattle.mc_flash.specs.declared.flash.FlashError.{FlashError}
 use Rattle.mc_flash.specs.declared.flash.FlashError.TheVariants as errors

@@ -1,12 +1,8 @@
 -- How much a boot does at most, in numbers. Proved here, so that the crates above can cite it.
-use Rattle.std.specs.Prelude.{◌≡◌, ℕ, ◌+◌, ◌*◌, ◌/◌, ◌<◌, ◌≤◌, ◌⊎◌}
-use Rattle.std.specs.Int.{div_ceil}
-use Rattle.std.proofs.Common.{arith}
-use Rattle.std.proofs.Math.Nat.{mul-le-mul_left, mul-le-mul_right, mod-add-div'}
-use Rattle.mc_flash.specs.Geometry.{Geometry, IsLayout, trailer_sectors, greatest_sectors}
-use Rattle.mc_flash.specs.facts.Layouts.{trailer_leaves_one, small_unit}
-use Rattle.mc_flash.specs.Usage.{most_operations, most_saved}
-use Rattle.mc_flash.specs.declared.flash.Grain.{Grain}
+use Rattle.std.specs.{Prelude.{◌≡◌, ℕ, ◌+◌, ◌*◌, ◌/◌, ◌<◌, ◌≤◌, ◌⊎◌}, Int.{div_ceil}}
+use Rattle.std.proofs.{Common.{arith}, Math.Nat.{mul-le-mul_left, mul-le-mul_right, mod-add-div'}}
+use Rattle.mc_flash.specs.{Geometry.{Geometry, IsLayout, trailer_sectors, greatest_sectors}, facts.Layouts.{trailer_leaves_one, small_unit}}
+use Rattle.mc_flash.specs.{Usage.{most_operations, most_saved}, declared.flash.Grain.{Grain}}
 use Rattle.mc_flash.specs.declared.flash.Grain.TheVariants as grains
 use Rattle.mc_flash.specs.declared.op.Slot.TheVariants.{Primary}
 

@@ -1,13 +1,8 @@
 -- The room of a journal, as limits.
-use Rattle.std.specs.List.{AllByRecursion}
-use Rattle.std.specs.Prelude.{List, [], drop, false, length, map, replicate, take, ℕ, ◌+◌, ◌∷◌, ◌≡◌, ◌≤◌}
-use Rattle.mc_flash.specs.Flash.{Content, bytes_of, put, size_of, with_bytes}
-use Rattle.mc_flash.specs.Geometry.{Geometry, IsLayout}
-use Rattle.mc_flash.specs.Usage.{Checkpoint, IsWithin, Limits, Seen, room_for}
-use Rattle.mc_flash.specs.declared.entry.Entry.{Entry}
-use Rattle.mc_flash.specs.declared.entry.Entry.TheVariants.{Erased, Written}
-use Rattle.mc_flash.specs.declared.op.Slot.{Slot}
-use Rattle.mc_flash.specs.declared.reserve.Reserve.{Reserve}
+use Rattle.std.specs.{List.{AllByRecursion}, Prelude.{List, [], drop, false, length, map, replicate, take, ℕ, ◌+◌, ◌∷◌, ◌≡◌, ◌≤◌}}
+use Rattle.mc_flash.specs.{Flash.{Content, bytes_of, put, size_of, with_bytes}, Geometry.{Geometry, IsLayout}}
+use Rattle.mc_flash.specs.{Usage.{Checkpoint, IsWithin, Limits, Seen, room_for}, declared.entry.Entry.{Entry}}
+use Rattle.mc_flash.specs.{declared.entry.Entry.TheVariants.{Erased, Written}, declared.op.Slot.{Slot}, declared.reserve.Reserve.{Reserve}}
 
 abbrev pub limits_of : Reserve → Limits
 limits_of reserve = room_for reserve.entries reserve.saved reserve.checkpoints

@@ -1,6 +1,5 @@
 -- At most 16 bytes in fixed room: the bytes stand first, and zeros fill the rest.
-use Rattle.std.proofs.Common.{ap, arith, sym, ◌∙◌}
-use Rattle.std.proofs.lemmas.List.{length-take-le, take-append-drop}
+use Rattle.std.proofs.{Common.{ap, arith, sym, ◌∙◌}, lemmas.List.{length-take-le, take-append-drop}}
 use Rattle.std.specs.Prelude.{List, drop, length, replicate, take, ℕ, ◌++◌, ◌-◌, ◌≡◌, ◌≤◌}
 
 abbrev pub zeros_after : ℕ → List ℕ

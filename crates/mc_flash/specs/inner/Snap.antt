@@ -1,8 +1,6 @@
 -- A flash that keeps copies, as a flash is seen.
 use Rattle.std.specs.Prelude.{Bool, List, false, map, ◌*◌, ◌+◌}
-use Rattle.mc_flash.specs.Flash.{Content}
-use Rattle.mc_flash.specs.Geometry.{Geometry}
-use Rattle.mc_flash.specs.Usage.{Checkpoint, Limits, Seen, most_operations, most_saved, no_counts}
+use Rattle.mc_flash.specs.{Flash.{Content}, Geometry.{Geometry}, Usage.{Checkpoint, Limits, Seen, most_operations, most_saved, no_counts}}
 use Rattle.mc_flash.specs.declared.snap.SnapFlash.{SnapFlash}
 use Rattle.mc_flash.specs.declared.flash.Grain.TheVariants as grains
 

@@ -1,10 +1,8 @@
 -- What follows for valid images. Proved here, so that the crates above can cite it.
 use Rattle.std.specs.Prelude.{◌≡◌, ℕ, ◌≤◌, true, false, List, length}
-use Rattle.std.proofs.Common.{arith, ap, length-append}
-use Rattle.std.proofs.lemmas.Slice.Eq.{bytes_eq-Decides}
+use Rattle.std.proofs.{Common.{arith, ap, length-append}, lemmas.Slice.Eq.{bytes_eq-Decides}}
 use Rattle.sha2.specs.Sha256.{sha256}
-use Rattle.mc_image.specs.Image.{Begins, Image, IsGood, covered_text, digest_of, image_text}
-use Rattle.mc_image.specs.Valid.{is_good}
+use Rattle.mc_image.specs.{Image.{Begins, Image, IsGood, covered_text, digest_of, image_text}, Valid.{is_good}}
 
 -- An image is no longer than the bytes that begin with it.
 pub prefix_within : (b : List ℕ) (v : Image) → Begins b v → length (image_text v) ≤ length b

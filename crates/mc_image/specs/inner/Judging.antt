@@ -1,19 +1,11 @@
 -- What a judge says of the bytes that it was fed, and where it stands in them.
 use Rattle.std.specs.Prelude.{Err, List, None, Ok, Option, Result, Some, drop, length, ℕ, ◌++◌, ◌+◌, ◌<◌, ◌≡◌, ◌≤◌}
 use Rattle.mc_image.specs.Image.{Image, IsBytes, digest_of, image_in, image_text, payload_end, protected_end, u16_at}
-use Rattle.mc_image.specs.Valid.{header_fault, image_fault, protected_fault}
-use Rattle.mc_image.specs.declared.areas.ProtectedArea.{ProtectedArea}
-use Rattle.mc_image.specs.declared.areas.EntryScan.{EntryScan}
-use Rattle.mc_image.specs.declared.error.ImageError.{ImageError}
-use Rattle.mc_image.specs.declared.header.Header.{Header}
-use Rattle.mc_image.specs.declared.judge.Judge.{Judge}
-use Rattle.mc_image.specs.declared.judge.Judged.{Judged}
-use Rattle.mc_image.specs.declared.judge.Sealed.{Sealed}
-use Rattle.mc_image.specs.declared.judge.Stage.{Stage}
+use Rattle.mc_image.specs.{Valid.{header_fault, image_fault, protected_fault}, declared.areas.ProtectedArea.{ProtectedArea}}
+use Rattle.mc_image.specs.{declared.areas.EntryScan.{EntryScan}, declared.error.ImageError.{ImageError}, declared.header.Header.{Header}}
+use Rattle.mc_image.specs.{declared.judge.Judge.{Judge}, declared.judge.Judged.{Judged}, declared.judge.Sealed.{Sealed}, declared.judge.Stage.{Stage}}
 use Rattle.mc_image.specs.inner.Reading.{Follows, IsHeader, Scans, head_fault, held}
-use Rattle.sha2.specs.Hashers.{Holds256}
-use Rattle.sha2.specs.Sha256.{sha256}
-use Rattle.sha2.specs.declared.Sha256.{Sha256}
+use Rattle.sha2.specs.{Hashers.{Holds256}, Sha256.{sha256}, declared.Sha256.{Sha256}}
 use Rattle.mc_image.specs.declared.judge.Stage.TheVariants as stages
 
 -- what is known of a valid image

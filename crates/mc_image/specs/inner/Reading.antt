@@ -1,16 +1,9 @@
 -- What a header's fields, a room for the first bytes, and a walk along entries say of the bytes that came so far.
 use Rattle.std.specs.Prelude.{List, Option, [], drop, is_none, is_some, length, nat_lt, not, take, true, ℕ, ◌++◌, ◌+◌, ◌<◌, ◌==◌, ◌||◌, ◌∷◌, ◌≡◌, ◌≢◌, ◌≤◌}
-use Rattle.mc_image.specs.Image.{digests, entries_in, entries_of, u16_at, u32_at, version_in}
-use Rattle.mc_image.specs.Valid.{digest_fault, fault_if, ◌<+>◌}
-use Rattle.mc_image.specs.declared.areas.DigestValue.{DigestValue}
-use Rattle.mc_image.specs.declared.areas.Found.{Found}
-use Rattle.mc_image.specs.declared.areas.EntryPart.{EntryPart}
-use Rattle.mc_image.specs.declared.areas.ProtectedArea.{ProtectedArea}
-use Rattle.mc_image.specs.declared.areas.EntryScan.{EntryScan}
-use Rattle.mc_image.specs.declared.error.ImageError.{ImageError}
-use Rattle.mc_image.specs.declared.error.ImageError.TheVariants.{BadTlvLength, BadTlvMagic}
-use Rattle.mc_image.specs.declared.gather.Gather.{Gather}
-use Rattle.mc_image.specs.declared.header.Header.{Header}
+use Rattle.mc_image.specs.{Image.{digests, entries_in, entries_of, u16_at, u32_at, version_in}, Valid.{digest_fault, fault_if, ◌<+>◌}}
+use Rattle.mc_image.specs.{declared.areas.DigestValue.{DigestValue}, declared.areas.Found.{Found}, declared.areas.EntryPart.{EntryPart}}
+use Rattle.mc_image.specs.{declared.areas.ProtectedArea.{ProtectedArea}, declared.areas.EntryScan.{EntryScan}, declared.error.ImageError.{ImageError}}
+use Rattle.mc_image.specs.{declared.error.ImageError.TheVariants.{BadTlvLength, BadTlvMagic}, declared.gather.Gather.{Gather}, declared.header.Header.{Header}}
 use Rattle.mc_image.specs.declared.areas.Found.TheVariants as found
 use Rattle.mc_image.specs.declared.areas.EntryPart.TheVariants as parts_of
 

@@ -1,10 +1,8 @@
 -- How a version is read along its text. That just the texts in the form are read, as their numbers, is proved of
 -- `Version::read`.
-use Rattle.std.specs.Char.{is_ascii_digit}
-use Rattle.std.specs.Option.{option_map}
+use Rattle.std.specs.{Char.{is_ascii_digit}, Option.{option_map}}
 use Rattle.std.specs.Prelude.{Err, List, None, Ok, Option, Result, Some, [], if◌then◌else◌, length, min, nat_lt, option_and_then, ℕ, ◌&&◌, ◌*◌, ◌+◌, ◌-◌, ◌==◌, ◌^◌, ◌∷◌}
-use Rattle.mc_image.specs.declared.error.VersionError.{VersionError}
-use Rattle.mc_image.specs.declared.error.VersionError.TheVariants.{Range, Syntax}
+use Rattle.mc_image.specs.{declared.error.VersionError.{VersionError}, declared.error.VersionError.TheVariants.{Range, Syntax}}
 use Rattle.mc_image.specs.declared.version.Version.{Version}
 
 -- digits go on: the number so far, and what follows. A number above 2 ^ 32 counts as 2 ^ 32, which is too great for

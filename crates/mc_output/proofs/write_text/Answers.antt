@@ -1,5 +1,4 @@
-use Rattle.std.proofs.Common.{arith}
-use Rattle.std.proofs.lemmas.List.{take_rest}
+use Rattle.std.proofs.{Common.{arith}, lemmas.List.{take_rest}}
 use Rattle.mc_output.proofs.Streams.{Appends_more}
 use Rattle.mc_output.proofs.write_text.Goals as goal
 

@@ -1,9 +1,6 @@
 -- A text that comes out piece by piece.
-use Rattle.std.specs.Prelude.{◌≡◌, ℕ, List, [], ◌++◌, length, take, drop, Option, refl}
-use Rattle.std.specs.Io.KnownBytes.{Appends}
-use Rattle.std.proofs.Common.{sym, ap, subst, ◌∙◌, append_assoc, append-nil, take-append-drop}
-use Rattle.std.proofs.KnownBytes.{Appends-nil, Appends-trans}
-use Rattle.std.proofs.lemmas.List.{take_at}
+use Rattle.std.specs.{Prelude.{◌≡◌, ℕ, List, [], ◌++◌, length, take, drop, Option, refl}, Io.KnownBytes.{Appends}}
+use Rattle.std.proofs.{Common.{sym, ap, subst, ◌∙◌, append_assoc, append-nil, take-append-drop}, KnownBytes.{Appends-nil, Appends-trans}, lemmas.List.{take_at}}
 use Rattle.mc_output.specs.Text.{AppendsPrefix}
 
 -- Of that text this is still to come.

@@ -1,8 +1,7 @@
 -- How the text of a list is taken apart at its separators, item by item.
 use Rattle.std.specs.Prelude.{◌≡◌, ℕ, ◌<◌, List, [], ◌∷◌, ◌++◌, length, flat_map, codes, refl}
 use Rattle.std.proofs.Common.{arith, sym, ap, subst, ◌∙◌, append_assoc, append-nil}
-use Rattle.mc_output.specs.Text.{joined, IsAdded}
-use Rattle.mc_output.specs.facts.Parting.{Lacks, one_part, no_part}
+use Rattle.mc_output.specs.{Text.{joined, IsAdded}, facts.Parting.{Lacks, one_part, no_part}}
 
 module _ {A : Type 0} (separator : ℕ) (spell : A → List ℕ) where
   -- The items so far, each with a separator after it.

@@ -1,13 +1,9 @@
 -- The text of a schedule, for a reader that goes cut by cut.
 use Rattle.std.specs.Prelude.{◌≡◌, ℕ, ◌<◌, ◌≤◌, ◌^◌, List, [], ◌∷◌, ◌++◌, length, flat_map, bytes_eq, codes, decimal, false, All, Result, Ok}
 use Rattle.std.specs.Str.Parse.{ParsesUnsigned}
-use Rattle.std.proofs.Common.{arith, subst, length-append}
-use Rattle.std.proofs.lemmas.Fmt.{parse-decimal, decimal_injective}
-use Rattle.std.proofs.lemmas.Slice.Eq.{bytes_eq-Decides}
-use Rattle.std.proofs.Math.Seq.{drop-append_seam}
-use Rattle.std.proofs.lemmas.List.Elements.{All-head, All-drop, All-push}
-use Rattle.mc_output.specs.facts.Parting.{lacks_decimal, no_dash}
-use Rattle.mc_output.specs.facts.Reading.{IsSpelling}
+use Rattle.std.proofs.{Common.{arith, subst, length-append}, lemmas.Fmt.{parse-decimal, decimal_injective}, lemmas.Slice.Eq.{bytes_eq-Decides}}
+use Rattle.std.proofs.{Math.Seq.{drop-append_seam}, lemmas.List.Elements.{All-head, All-drop, All-push}}
+use Rattle.mc_output.specs.{facts.Parting.{lacks_decimal, no_dash}, facts.Reading.{IsSpelling}}
 use Rattle.mc_start.specs.Start.{IsSchedule, FitsCut}
 
 -- A text that writes a number is read as that number.

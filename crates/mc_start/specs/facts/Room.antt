@@ -1,8 +1,6 @@
 -- The room of a flash that was loaded for so many boots.
 use Rattle.std.specs.Prelude.{ℕ, ◌+◌, ◌*◌, ◌≤◌}
-use Rattle.mc_flash.specs.Geometry.{Geometry}
-use Rattle.mc_flash.specs.Usage.{Limits, IsWithin, limits_for, most_operations, most_saved}
-use Rattle.mc_flash.specs.declared.flash.Grain.{Grain}
+use Rattle.mc_flash.specs.{Geometry.{Geometry}, Usage.{Limits, IsWithin, limits_for, most_operations, most_saved}, declared.flash.Grain.{Grain}}
 
 pub record AreLimits (grain : Grain) (g : Geometry) (boots : ℕ) (limits : Limits) : Type 0 where
   pub for_entries : boots * most_operations grain g ≤ limits.entries

@@ -1,8 +1,6 @@
 -- One boot that is traced operation by operation.
-use Rattle.std.specs.Io.KnownBytes.{Appends}
-use Rattle.std.specs.Prelude.{Err, IfSome, IsErrOf, List, Ok, Option, Result, false, ℕ, ◌≡◌, ◌≤◌}
-use Rattle.mc_boot.specs.Boot.{GoesOn, progress}
-use Rattle.mc_boot.specs.declared.boot.Boot.{Boot}
+use Rattle.std.specs.{Io.KnownBytes.{Appends}, Prelude.{Err, IfSome, IsErrOf, List, Ok, Option, Result, false, ℕ, ◌≡◌, ◌≤◌}}
+use Rattle.mc_boot.specs.{Boot.{GoesOn, progress}, declared.boot.Boot.{Boot}}
 use Rattle.mc_flash.specs.Usage.{Counts, LeaveRoom, Seen, no_counts, plus}
 use Rattle.mc_output.specs.Text.{AppendsPrefix}
 use Rattle.mc_trace.specs.declared.error.TraceError.{TraceError}

@@ -1,18 +1,11 @@
 -- The rows of a picture as the walk gives them.
 use Rattle.std.specs.Prelude.{List, None, Option, Some, [], length, slice_get, true, ℕ, ◌++◌, ◌+◌, ◌∷◌, ◌≡◌, ◌≤◌}
-use Rattle.mc_boot.specs.Outcome.{ops_of, outcome_of, shown}
-use Rattle.mc_boot.specs.Plan.{PowerOn, again, power_on}
-use Rattle.mc_explore.specs.declared.one_round.OneRound.{OneRound}
-use Rattle.mc_boot.specs.declared.boot.Boot.{Boot}
-use Rattle.mc_explore.specs.declared.one_round.Summary.{Summary}
-use Rattle.mc_explore.specs.inner.OneRound.{at_cut, boots, one_round}
-use Rattle.mc_walk.specs.TreeModel.{TreeModel}
-use Rattle.mc_flash.specs.Flash.{Content}
-use Rattle.mc_trace.specs.Picture.{Shown, is_target}
-use Rattle.mc_trace.specs.declared.picture_rows.Row.{Row}
+use Rattle.mc_boot.specs.{Outcome.{ops_of, outcome_of, shown}, Plan.{PowerOn, again, power_on}, declared.boot.Boot.{Boot}}
+use Rattle.mc_explore.specs.{declared.one_round.OneRound.{OneRound}, declared.one_round.Summary.{Summary}, inner.OneRound.{at_cut, boots, one_round}}
+use Rattle.mc_walk.specs.{TreeModel.{TreeModel}, Walks.{IsPath, Walked, origin_of}}
+use Rattle.mc_flash.specs.{Flash.{Content}, Geometry.{Geometry}}
+use Rattle.mc_trace.specs.{Picture.{Shown, is_target}, declared.picture_rows.Row.{Row}}
 use Rattle.mc_tree.specs.Tree.{landed}
-use Rattle.mc_walk.specs.Walks.{IsPath, Walked, origin_of}
-use Rattle.mc_flash.specs.Geometry.{Geometry}
 
 -- A row, and the flash there.
 abbrev pub row_shown : Row → Content → Shown

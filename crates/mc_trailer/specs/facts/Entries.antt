@@ -1,19 +1,13 @@
 -- What follows for the status entries. Proved here, so that the crates above can cite it.
 use Rattle.std.specs.Prelude.{◌≡◌, ◌≢◌, ◌⊎◌, ℕ, zero, suc, ◌+◌, ◌-◌, ◌*◌, ◌<◌, ◌≤◌, Bool, true, false, not, List, length, slice_index, Option, Some, None, refl}
-use Rattle.std.proofs.Common.{arith, sym, ap, ◌∙◌, inl, inr, add-zero}
-use Rattle.std.proofs.Math.Nat.{mul-le-mul_right}
-use Rattle.std.proofs.lemmas.Bool.{cases_eq, cases_Bool, cases_order}
-use Rattle.std.proofs.lemmas.Grind.{same_number_lists}
-use Rattle.std.proofs.lemmas.List.Edits.{get_or-between, length-between}
-use Rattle.mc_flash.specs.Flash.{is_blank, Content, IsSized, byte, size_of, apply}
-use Rattle.mc_flash.specs.Geometry.{Geometry, IsLayout, trailer_bytes}
-use Rattle.mc_flash.specs.facts.Layouts.{small_unit}
+use Rattle.std.proofs.{Common.{arith, sym, ap, ◌∙◌, inl, inr, add-zero}, Math.Nat.{mul-le-mul_right}, lemmas.Bool.{cases_eq, cases_Bool, cases_order}}
+use Rattle.std.proofs.{lemmas.Grind.{same_number_lists}, lemmas.List.Edits.{get_or-between, length-between}}
+use Rattle.mc_flash.specs.{Flash.{is_blank, Content, IsSized, byte, size_of, apply}, Geometry.{Geometry, IsLayout, trailer_bytes}, facts.Layouts.{small_unit}}
 use Rattle.mc_flash.specs.facts.Changes.{Changed, changed_sized, blank_range, range_blank, program_changes}
 use Rattle.mc_flash.specs.declared.op.Op.TheVariants as ops
 use Rattle.mc_flash.specs.declared.op.Slot.TheVariants.{Primary}
 use Rattle.mc_trailer.specs.Trailer.{entry_place, bytes_at, one_unit, is_written, IsWritten, IsHighest, greatest, highest_entry}
-use Rattle.mc_trailer.specs.facts.Places.{entry_beyond, entry_inside, group_inside, entry_ends, entries_apart, one_unit_len}
-use Rattle.mc_trailer.specs.Laws.{WritesHighest}
+use Rattle.mc_trailer.specs.{facts.Places.{entry_beyond, entry_inside, group_inside, entry_ends, entries_apart, one_unit_len}, Laws.{WritesHighest}}
 
 -- The greatest number below a limit that passes: it passes, and no other above it does.
 pub greatest_some : (p : ℕ → Bool) (n m : ℕ) → greatest p n ≡ Some m → (m < n) × (p m ≡ true) × ((d : ℕ) → d < n → p d ≡ true → d ≤ m)

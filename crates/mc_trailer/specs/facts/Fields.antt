@@ -1,28 +1,20 @@
 -- What follows for the fields of a trailer. Proved here, so that the crates above can cite it.
 use Rattle.std.specs.Prelude.{◌≡◌, ◌≢◌, ◌⊎◌, ℕ, ◌+◌, ◌-◌, ◌^◌, ◌<◌, ◌≤◌, ◌==◌, Bool, true, false, if◌then◌else◌, List, [], ◌∷◌, ◌++◌, length, replicate, slice_index, bytes_eq, Some, refl}
-use Rattle.std.proofs.Common.{arith, sym, ap, subst, ◌∙◌, inl, inr, eq-eqb, length-append, add-zero}
-use Rattle.std.proofs.lemmas.Bool.{ne_eqb}
-use Rattle.std.proofs.lemmas.Grind.{same_number_lists}
-use Rattle.std.proofs.lemmas.List.{get_or_append_left, get_or-replicate, length-replicate}
-use Rattle.std.proofs.lemmas.Slice.Eq.{bytes_eq-Decides}
+use Rattle.std.proofs.{Common.{arith, sym, ap, subst, ◌∙◌, inl, inr, eq-eqb, length-append, add-zero}, lemmas.Bool.{ne_eqb}, lemmas.Grind.{same_number_lists}}
+use Rattle.std.proofs.{lemmas.List.{get_or_append_left, get_or-replicate, length-replicate}, lemmas.Slice.Eq.{bytes_eq-Decides}}
 use Rattle.std.proofs.lemmas.List.Edits.{get_or-between, length-between}
-use Rattle.byteorder.specs.Endian.{little_bytes, little_number}
-use Rattle.byteorder.specs.Numbers.{little_number-reads_back}
-use Rattle.mc_flash.specs.Geometry.{Geometry, IsLayout}
-use Rattle.mc_flash.specs.Flash.{Content, IsSized, bytes_of, byte, size_of, apply, is_blank}
+use Rattle.byteorder.specs.{Endian.{little_bytes, little_number}, Numbers.{little_number-reads_back}}
+use Rattle.mc_flash.specs.{Geometry.{Geometry, IsLayout}, Flash.{Content, IsSized, bytes_of, byte, size_of, apply, is_blank}}
 use Rattle.mc_flash.specs.facts.Changes.{Changed, changed_sized, sized_is, program_changes}
 use Rattle.mc_flash.specs.declared.op.Op.TheVariants as ops
 use Rattle.mc_flash.specs.declared.op.Slot.{Slot}
 use Rattle.mc_trailer.specs.Trailer.{place, before_end, magic_bytes, room, magic_of, flag_of, bytes_at, trailer_of, one_unit, size_bytes}
-use Rattle.mc_trailer.specs.facts.Places.{place_inside, field_ends, fields_apart, room_is, most_before_end, same_or_apart}
-use Rattle.mc_trailer.specs.Tables.{is_good}
+use Rattle.mc_trailer.specs.{facts.Places.{place_inside, field_ends, fields_apart, room_is, most_before_end, same_or_apart}, Tables.{is_good}}
 use Rattle.mc_trailer.specs.declared.places.Field.{Field}
 use Rattle.mc_trailer.specs.declared.places.Field.TheVariants as field
 use Rattle.mc_trailer.specs.declared.trailer.Magic.{Magic}
 use Rattle.mc_trailer.specs.declared.trailer.Magic.TheVariants as magics
-use Rattle.mc_trailer.specs.declared.trailer.Flag.{Flag}
-use Rattle.mc_trailer.specs.declared.trailer.Trailer.{Trailer}
-use Rattle.mc_trailer.specs.Laws.{SameReading, ReadsBack, WritesKeep}
+use Rattle.mc_trailer.specs.{declared.trailer.Flag.{Flag}, declared.trailer.Trailer.{Trailer}, Laws.{SameReading, ReadsBack, WritesKeep}}
 
 -- A field begins with these bytes, as far as its room goes.
 abbrev pub FieldIs : Geometry → Content → Slot → Field → List ℕ → Type 0

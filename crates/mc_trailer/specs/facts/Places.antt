@@ -1,17 +1,11 @@
 -- What follows for the places: the fields and the status entries lie in the slot, at whole units, after the data sectors,
 -- and apart from one another. Proved here, so that the crates above can cite it.
 use Rattle.std.specs.Prelude.{◌≡◌, ◌≢◌, ◌⊎◌, ℕ, ◌+◌, ◌-◌, ◌*◌, ◌%◌, ◌<◌, ◌≤◌, ◌==◌, if◌then◌else◌, length, refl}
-use Rattle.std.proofs.Common.{arith, ap, ◌∙◌, inl, inr}
-use Rattle.std.proofs.lemmas.Bool.{cases_order}
-use Rattle.std.proofs.lemmas.List.{length-replicate}
-use Rattle.std.proofs.Math.Nat.{mul-le-mul_right, mod_self}
-use Rattle.mc_flash.specs.Geometry.{Geometry, IsLayout, trailer_bytes}
-use Rattle.mc_flash.specs.Flash.{size_of, IsRange}
+use Rattle.std.proofs.{Common.{arith, ap, ◌∙◌, inl, inr}, lemmas.Bool.{cases_order}, lemmas.List.{length-replicate}, Math.Nat.{mul-le-mul_right, mod_self}}
+use Rattle.mc_flash.specs.{Geometry.{Geometry, IsLayout, trailer_bytes}, Flash.{size_of, IsRange}}
 use Rattle.mc_flash.specs.facts.Layouts.{trailer_inside, small_unit, data_end, data_before_trailer, whole_sub, whole_add, whole_size, whole_eights, whole_units}
-use Rattle.mc_flash.specs.declared.op.Slot.{Slot}
-use Rattle.mc_flash.specs.declared.op.Slot.TheVariants.{Primary}
-use Rattle.mc_trailer.specs.Trailer.{room, place, entry_place, before_end, one_unit, size_bytes}
-use Rattle.mc_trailer.specs.declared.places.Field.{Field}
+use Rattle.mc_flash.specs.{declared.op.Slot.{Slot}, declared.op.Slot.TheVariants.{Primary}}
+use Rattle.mc_trailer.specs.{Trailer.{room, place, entry_place, before_end, one_unit, size_bytes}, declared.places.Field.{Field}}
 use Rattle.mc_trailer.specs.declared.places.Field.TheVariants as field
 
 pub room_is : (f : Field) → ((before_end f ≡ 16) × (room f ≡ 16)) ⊎ ((24 ≤ before_end f) × (room f ≡ 8))

@@ -1,13 +1,11 @@
 -- What follows for the swap tables. Proved here, so that the crates above can cite it.
 use Rattle.std.specs.Prelude.{◌≡◌, Bool, true, false, ◌&&◌, if◌then◌else◌, ◌↔◌, refl}
 use Rattle.std.proofs.Common.{subst}
-use Rattle.mc_trailer.specs.Tables.{is_good, is_set, is_unset, reverts_at, asks_test, asks_perm, asks_revert, Asks, swap_type}
-use Rattle.mc_trailer.specs.declared.trailer.Magic.{Magic}
+use Rattle.mc_trailer.specs.{Tables.{is_good, is_set, is_unset, reverts_at, asks_test, asks_perm, asks_revert, Asks, swap_type}, declared.trailer.Magic.{Magic}}
 use Rattle.mc_trailer.specs.declared.trailer.Magic.TheVariants as magics
 use Rattle.mc_trailer.specs.declared.trailer.Flag.{Flag}
 use Rattle.mc_trailer.specs.declared.trailer.Flag.TheVariants as flags
-use Rattle.mc_trailer.specs.declared.trailer.Trailer.{Trailer}
-use Rattle.mc_trailer.specs.declared.tables.Profile.{Profile}
+use Rattle.mc_trailer.specs.{declared.trailer.Trailer.{Trailer}, declared.tables.Profile.{Profile}}
 use Rattle.mc_trailer.specs.declared.tables.Profile.TheVariants as profiles
 use Rattle.mc_trailer.specs.declared.tables.SwapType.{SwapType}
 use Rattle.mc_trailer.specs.declared.tables.SwapType.TheVariants as kinds

@@ -1,11 +1,9 @@
 -- There is a list of the rows to come: of all paths within the bound those past the position, each with its row.
 use Rattle.std.proofs.Common.{◌≡◌, ℕ, suc, zero, ◌<◌, List, [], ◌∷◌, ◌++◌, map, inl, inr, refl, sym, subst, ap, ◌∙◌, append-nil, append_assoc, arith}
+use Rattle.std.proofs.{lemmas.Bool.{cases_lt}, lemmas.List.Elements.{Contains-append_cases, Contains-append_left, Contains-append_right}}
 use Rattle.std.specs.Prelude.{AllPairs, Contains}
-use Rattle.std.proofs.lemmas.Bool.{cases_lt}
-use Rattle.std.proofs.lemmas.List.Elements.{Contains-append_cases, Contains-append_left, Contains-append_right}
 use Rattle.mc_tree.specs.Tree.{Tree, IsMember, Precedes, Position, AtStart, After, Lost, Ascends, IsRest, landed}
-use Rattle.mc_tree.specs.facts.Order.{IsOrder, cases_of, landed-push}
-use Rattle.mc_tree.specs.inner.Weights.{path_tree}
+use Rattle.mc_tree.specs.{facts.Order.{IsOrder, cases_of, landed-push}, inner.Weights.{path_tree}}
 use Rattle.mc_tree.specs.facts.Lists.{no_element, at_head, in_rest, head_or_rest, no_pairs, pairs_rest, pairs_head, more_pairs, pairs_append, in_map, map_in, pairs_mapped}
 
 -- Each path comes before all that stand after it.

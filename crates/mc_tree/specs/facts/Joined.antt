@@ -1,12 +1,8 @@
 -- The rows of pages that are continued one after another.
 use Rattle.std.specs.Prelude.{◌≡◌, ◌⊎◌, ℕ, zero, suc, ◌+◌, ◌<◌, Bool, true, List, [], ◌∷◌, ◌++◌, length, take, drop, All, refl}
-use Rattle.std.proofs.Common.{inl, inr, arith, sym, ap, subst, ◌∙◌, append-nil}
-use Rattle.std.proofs.Math.Seq.{take-add}
-use Rattle.std.proofs.lemmas.List.{length-take, take-append-drop, take_all}
+use Rattle.std.proofs.{Common.{inl, inr, arith, sym, ap, subst, ◌∙◌, append-nil}, Math.Seq.{take-add}, lemmas.List.{length-take, take-append-drop, take_all}}
 use Rattle.std.proofs.lemmas.List.Elements.{All-head, All-tail}
-use Rattle.mc_tree.specs.Tree.{Position, After, IsRest, last_key, Chain, JoinUp}
-use Rattle.mc_tree.specs.facts.OneList.{one_rest, rest_tail}
-use Rattle.mc_tree.specs.facts.Order.{IsOrder}
+use Rattle.mc_tree.specs.{Tree.{Position, After, IsRest, last_key, Chain, JoinUp}, facts.OneList.{one_rest, rest_tail}, facts.Order.{IsOrder}}
 
 module _ {R : Type 0} where
   -- After a full page the rest of the chain is a prefix of the others.

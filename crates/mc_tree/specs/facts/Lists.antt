@@ -1,8 +1,7 @@
 -- The elements of a list, and its pairs, by recursion.
-use Rattle.std.proofs.Common.{◌≡◌, suc, ◌⊎◌, List, [], ◌∷◌, ◌++◌, map, inl, inr, refl, sym, subst, arith}
-use Rattle.std.specs.Prelude.{AllPairs, Contains}
-use Rattle.std.proofs.lemmas.List.Kept.{AllPairs-cons}
+use Rattle.std.proofs.{Common.{◌≡◌, suc, ◌⊎◌, List, [], ◌∷◌, ◌++◌, map, inl, inr, refl, sym, subst, arith}, lemmas.List.Kept.{AllPairs-cons}}
 use Rattle.std.proofs.lemmas.List.Elements.{All-weaker, All-contains_itself, Contains-append_cases}
+use Rattle.std.specs.Prelude.{AllPairs, Contains}
 
 module _ {X : Type 0} where
   pub no_element : (x : X) → Contains [] x → ⊥

@@ -1,9 +1,7 @@
 -- There is at most one list of the rows to come, and a row or none is taken off at its start.
-use Rattle.std.proofs.Common.{◌≡◌, List, [], ◌∷◌, ◌++◌, ◌⊎◌, inl, inr, refl, sym, ap, subst}
+use Rattle.std.proofs.{Common.{◌≡◌, List, [], ◌∷◌, ◌++◌, ◌⊎◌, inl, inr, refl, sym, ap, subst}, lemmas.List.Elements.{Contains-append_right}}
 use Rattle.std.specs.Prelude.{Contains}
-use Rattle.std.proofs.lemmas.List.Elements.{Contains-append_right}
-use Rattle.mc_tree.specs.Tree.{Position, After, IsPastIn, Ascends, IsRest}
-use Rattle.mc_tree.specs.facts.Order.{IsOrder, not_same, past_on}
+use Rattle.mc_tree.specs.{Tree.{Position, After, IsPastIn, Ascends, IsRest}, facts.Order.{IsOrder, not_same, past_on}}
 use Rattle.mc_tree.specs.facts.Lists.{no_element, at_head, in_rest, head_or_rest, pairs_rest, pairs_head, pairs_after}
 
 module _ {K R : Type 0} (Before : K → K → Type 0) (order : IsOrder Before) (key : R → K) where

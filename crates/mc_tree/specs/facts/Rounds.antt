@@ -1,7 +1,7 @@
 -- Paths in two rounds: their pairs, in their order.
 use Rattle.std.proofs.Common.{◌≡◌, ℕ, ◌+◌, ◌-◌, ◌<◌, ◌≤◌, Bool, true, false, List, [], ◌∷◌, length, map, inl, inr, refl, sym, ap, subst, ◌∙◌, arith}
-use Rattle.std.specs.Prelude.{nat_lt, if◌then◌else◌}
 use Rattle.std.proofs.lemmas.Bool.Decides.{nat_tests}
+use Rattle.std.specs.Prelude.{nat_lt, if◌then◌else◌}
 use Rattle.mc_tree.specs.Tree.{Tree, landed, Allowed, Precedes, RoundNode, round_one, round_two, two_rounds, two_rounds_child, label, labels, in_both, pairs, Before, PairsPrecede}
 use Rattle.mc_tree.specs.facts.Order.{not_same, paths_in_order, pairs_in_order}
 

@@ -1,11 +1,8 @@
 -- Weights of lists of rows and of trees: what a list of all rows comes to, and what follows for nodes whose children are another's.
 use Rattle.std.specs.Prelude.{◌≡◌, ℕ, zero, suc, ◌+◌, ◌-◌, ◌<◌, ◌≤◌, List, [], ◌∷◌, ◌++◌, map, refl}
-use Rattle.std.proofs.Common.{arith, sym, ap, ◌∙◌}
-use Rattle.std.proofs.lemmas.List.{map-append}
-use Rattle.mc_tree.specs.Tree.{Tree, landed}
-use Rattle.mc_tree.specs.facts.Order.{landed-push}
-use Rattle.mc_tree.specs.inner.Weights.{Weighing, IsWeighing, IsShared, from, path_tree, shared_below, total, weight}
-use Rattle.mc_tree.specs.facts.Existence.{all_from, beginning}
+use Rattle.std.proofs.{Common.{arith, sym, ap, ◌∙◌}, lemmas.List.{map-append}}
+use Rattle.mc_tree.specs.{Tree.{Tree, landed}, facts.Order.{landed-push}}
+use Rattle.mc_tree.specs.{inner.Weights.{Weighing, IsWeighing, IsShared, from, path_tree, shared_below, total, weight}, facts.Existence.{all_from, beginning}}
 
 module _ {M : Type 0} (w : Weighing M) (is : IsWeighing w) where
   total_append : {R : Type 0} (one : R → M) (xs ys : List R) → total w one (xs ++ ys) ≡ w.merged (total w one xs) (total w one ys)

@@ -1,8 +1,6 @@
 -- The digests of a slot's sectors, as they are kept.
 use Rattle.std.specs.Prelude.{List, length, ℕ, ◌*◌, ◌≡◌}
-use Rattle.mc_vectors.specs.Cases.{sector_digests}
-use Rattle.mc_vectors.specs.declared.digests.Digests.{Digests}
-use Rattle.mc_vectors.specs.declared.digests.SlotDigests.{SlotDigests}
+use Rattle.mc_vectors.specs.{Cases.{sector_digests}, declared.digests.Digests.{Digests}, declared.digests.SlotDigests.{SlotDigests}}
 
 -- Bytes of whole sectors.
 abbrev pub IsWhole : ℕ → List ℕ → Type 0

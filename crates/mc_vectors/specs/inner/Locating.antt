@@ -1,14 +1,8 @@
 -- The nearest of the cases, on the way to it.
-use Rattle.std.specs.List.{range_with_len}
-use Rattle.std.specs.Prelude.{Contains, List, Some, [], filter, map, ℕ, ◌≡◌, ◌⊎◌}
-use Rattle.mc_boot.specs.Outcome.{after}
-use Rattle.mc_boot.specs.Plan.{PowerOn}
-use Rattle.mc_flash.specs.Flash.{Content, sectors_of}
-use Rattle.mc_flash.specs.Geometry.{Geometry}
-use Rattle.mc_flash.specs.declared.op.Slot.{Slot}
-use Rattle.mc_vectors.specs.Locating.{IsNoFarther, is_other}
-use Rattle.mc_vectors.specs.declared.case.Case.{Case}
-use Rattle.mc_vectors.specs.declared.locating.SectorId.{SectorId}
+use Rattle.std.specs.{List.{range_with_len}, Prelude.{Contains, List, Some, [], filter, map, ℕ, ◌≡◌, ◌⊎◌}}
+use Rattle.mc_boot.specs.{Outcome.{after}, Plan.{PowerOn}}
+use Rattle.mc_flash.specs.{Flash.{Content, sectors_of}, Geometry.{Geometry}, declared.op.Slot.{Slot}}
+use Rattle.mc_vectors.specs.{Locating.{IsNoFarther, is_other}, declared.case.Case.{Case}, declared.locating.SectorId.{SectorId}}
 
 -- The sectors in which two flashes differ, of the first so many of a slot, and of all of them.
 abbrev pub differing_first : Geometry → Content → Content → Slot → ℕ → List SectorId

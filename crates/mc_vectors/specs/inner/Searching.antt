@@ -1,18 +1,11 @@
 -- The search for the flashes that cuts leave, on its way.
 use Rattle.std.specs.Prelude.{All, AllPairs, Contains, List, Some, [], false, get_or, length, take, true, ℕ, ◌++◌, ◌+◌, ◌<◌, ◌∷◌, ◌≡◌, ◌≢◌, ◌≤◌}
-use Rattle.std.specs.BTreeSet.{BTreeSet, contains}
-use Rattle.std.specs.Cmp.Lexicographic.{slice_cmp}
-use Rattle.std.specs.Ordering.{nat_cmp}
-use Rattle.mc_boot.specs.Outcome.{after, ops_of}
-use Rattle.mc_boot.specs.Plan.{PowerOn, again}
-use Rattle.mc_boot.specs.declared.shared_tail.SharedTail.{SharedTail}
-use Rattle.mc_explore.specs.declared.one_round.OneRound.{OneRound}
-use Rattle.mc_explore.specs.inner.OneRound.{GoesOnIn, at_cut, begun_of, one_round}
+use Rattle.std.specs.{BTreeSet.{BTreeSet, contains}, Cmp.Lexicographic.{slice_cmp}, Ordering.{nat_cmp}}
+use Rattle.mc_boot.specs.{Outcome.{after, ops_of}, Plan.{PowerOn, again}, declared.shared_tail.SharedTail.{SharedTail}}
+use Rattle.mc_explore.specs.{declared.one_round.OneRound.{OneRound}, inner.OneRound.{GoesOnIn, at_cut, begun_of, one_round}}
 use Rattle.mc_flash.specs.Flash.{Content}
 use Rattle.mc_walk.specs.Walks.{IsPath, Walked}
-use Rattle.mc_vectors.specs.Cases.{ComesBefore, IsCase, IsNoLater, flash_digest}
-use Rattle.mc_vectors.specs.declared.case.Case.{Case}
-use Rattle.mc_vectors.specs.declared.search.Search.{Search}
+use Rattle.mc_vectors.specs.{Cases.{ComesBefore, IsCase, IsNoLater, flash_digest}, declared.case.Case.{Case}, declared.search.Search.{Search}}
 use Rattle.mc_vectors.specs.inner.Digests.{AreOfFlash}
 
 module _ (x : PowerOn) (cases : List Case) where

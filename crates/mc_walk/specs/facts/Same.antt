@@ -1,8 +1,7 @@
 -- The paths of the same walk, elsewhere.
 use Rattle.std.proofs.Common.{List, ℕ, sym, subst}
 use Rattle.mc_tree.specs.Tree.{IsMember}
-use Rattle.mc_walk.specs.TreeModel.{TreeModel}
-use Rattle.mc_walk.specs.Walks.{Walked, IsPath, IsSame, origin_of}
+use Rattle.mc_walk.specs.{TreeModel.{TreeModel}, Walks.{Walked, IsPath, IsSame, origin_of}}
 
 module _ {N A T B : Type 0} (model : B → TreeModel N A T) where
   pub same_back : (old new : Walked B) → IsSame old new → IsSame new old

@@ -1,10 +1,8 @@
 -- The frames of a walk.
 use Rattle.std.specs.Prelude.{Bool, List, [], false, length, map, true, ℕ, ◌++◌, ◌+◌, ◌<◌, ◌^◌, ◌∷◌, ◌≡◌, ◌≤◌}
-use Rattle.mc_flash.specs.Flash.{Content}
-use Rattle.mc_flash.specs.Usage.{Checkpoint, Counts, HasRoom, LeaveRoom, Seen, checkpoint_of, marked, plus, times}
+use Rattle.mc_flash.specs.{Flash.{Content}, Usage.{Checkpoint, Counts, HasRoom, LeaveRoom, Seen, checkpoint_of, marked, plus, times}}
 use Rattle.mc_tree.specs.Tree.{landed}
-use Rattle.mc_walk.specs.TreeModel.{HasNext, TreeModel, owed_there}
-use Rattle.mc_walk.specs.declared.frame.Frame.{Frame}
+use Rattle.mc_walk.specs.{TreeModel.{HasNext, TreeModel, owed_there}, declared.frame.Frame.{Frame}}
 
 -- The path that the frames stand for.
 abbrev pub path_of : {A T : Type 0} → List (Frame A T) → List ℕ

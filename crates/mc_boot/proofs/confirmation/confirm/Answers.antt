@@ -1,15 +1,9 @@
-use Rattle.std.proofs.Common.{refl, sym, ap, subst, ◌∙◌}
+use Rattle.std.proofs.{Common.{refl, sym, ap, subst, ◌∙◌}, lemmas.Result.{err_from_is_err_and}}
 use Rattle.std.specs.Prelude.{Ok, Err, true, false}
-use Rattle.std.proofs.lemmas.Result.{err_from_is_err_and}
-use Rattle.mc_flash.specs.Geometry.{Geometry}
-use Rattle.mc_flash.specs.Usage.{Does}
-use Rattle.mc_flash.specs.declared.op.Op.{Op}
-use Rattle.mc_flash.specs.declared.op.Slot.TheVariants.{Primary}
-use Rattle.mc_boot.specs.Restart.{Confirms}
-use Rattle.mc_boot.specs.facts.Confirm.{confirm_fails, confirms_content, confirms_counts, confirms_err, confirms_keeps, confirms_spends}
+use Rattle.mc_flash.specs.{Geometry.{Geometry}, Usage.{Does}, declared.op.Op.{Op}, declared.op.Slot.TheVariants.{Primary}}
+use Rattle.mc_boot.specs.{Restart.{Confirms}, facts.Confirm.{confirm_fails, confirms_content, confirms_counts, confirms_err, confirms_keeps, confirms_spends}}
 use Rattle.mc_boot.specs.Plan.{image_ok_write}
-use Rattle.mc_boot.proofs.confirmation.confirm.Given.{Over}
-use Rattle.mc_boot.proofs.confirmation.confirm.Goals.{In_ok-perform}
+use Rattle.mc_boot.proofs.{confirmation.confirm.Given.{Over}, confirmation.confirm.Goals.{In_ok-perform}}
 use Rattle.mc_boot.proofs.confirmation.confirm.Goals as goal
 
 -- nothing was written

@@ -1,12 +1,7 @@
 use Rattle.std.proofs.Common.{◌≡◌, ℕ, ◌+◌, ◌^◌, ◌≤◌, Bool, false, ◌&&◌, Fits, w64, refl, sym, ap, subst, arith, ◌∙◌}
 use Rattle.std.proofs.lemmas.Bool.{false≢true, and_left, and_right}
-use Rattle.mc_flash.specs.Flash.{size_of}
-use Rattle.mc_flash.specs.facts.Layouts.{small_unit}
-use Rattle.mc_flash.specs.declared.op.Slot.TheVariants.{Primary}
-use Rattle.mc_trailer.specs.Trailer.{trailer_of}
-use Rattle.mc_trailer.specs.Tables.{is_good, is_set}
-use Rattle.mc_trailer.specs.declared.trailer.Trailer.{Trailer}
-use Rattle.mc_trailer.specs.declared.trailer.Magic.{Magic}
+use Rattle.mc_flash.specs.{Flash.{size_of}, facts.Layouts.{small_unit}, declared.op.Slot.TheVariants.{Primary}}
+use Rattle.mc_trailer.specs.{Trailer.{trailer_of}, Tables.{is_good, is_set}, declared.trailer.Trailer.{Trailer}, declared.trailer.Magic.{Magic}}
 use Rattle.mc_trailer.specs.declared.trailer.Magic.TheVariants as magics
 use Rattle.mc_trailer.specs.declared.trailer.Flag.{Flag}
 use Rattle.mc_trailer.specs.declared.trailer.Flag.TheVariants as flags

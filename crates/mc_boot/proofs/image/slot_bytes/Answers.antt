@@ -1,8 +1,5 @@
-use Rattle.std.proofs.Common.{◌≡◌, ◌^◌, ◌≤◌, ℕ, List, take, length, arith}
-use Rattle.std.proofs.lemmas.List.{length-take, take_all}
-use Rattle.mc_flash.specs.Flash.{size_of}
-use Rattle.mc_flash.specs.Geometry.{Geometry, IsLayout}
-use Rattle.mc_flash.specs.declared.op.Slot.{Slot}
+use Rattle.std.proofs.{Common.{◌≡◌, ◌^◌, ◌≤◌, ℕ, List, take, length, arith}, lemmas.List.{length-take, take_all}}
+use Rattle.mc_flash.specs.{Flash.{size_of}, Geometry.{Geometry, IsLayout}, declared.op.Slot.{Slot}}
 use Rattle.mc_boot.proofs.Courses.{slot_small}
 use Rattle.mc_boot.proofs.image.slot_bytes.Goals as goal
 

@@ -1,5 +1,4 @@
-use Rattle.std.proofs.Common.{arith, length-append, sym, ◌∙◌}
-use Rattle.std.proofs.lemmas.List.FromFn.{length-map-range_with_len}
+use Rattle.std.proofs.{Common.{arith, length-append, sym, ◌∙◌}, lemmas.List.FromFn.{length-map-range_with_len}}
 use Rattle.mc_boot.proofs.Sections.{opening_is, preparation_is}
 use Rattle.mc_boot.proofs.kept_operations.harmless_opening_len.Goals as goal
 

@@ -1,7 +1,5 @@
-use Rattle.std.proofs.Common.{◌≡◌, ℕ, ◌+◌, ◌-◌, ◌*◌, ◌/◌, ◌≤◌, Fits, w32, arith}
-use Rattle.std.proofs.lemmas.Bool.{ne_eqb}
-use Rattle.mc_flash.specs.Geometry.{Geometry, IsLayout}
-use Rattle.mc_flash.specs.facts.Usage.{few_chunks}
+use Rattle.std.proofs.{Common.{◌≡◌, ℕ, ◌+◌, ◌-◌, ◌*◌, ◌/◌, ◌≤◌, Fits, w32, arith}, lemmas.Bool.{ne_eqb}}
+use Rattle.mc_flash.specs.{Geometry.{Geometry, IsLayout}, facts.Usage.{few_chunks}}
 use Rattle.mc_boot.proofs.Plans.{few_counted}
 use Rattle.mc_boot.proofs.kept_operations.harmless_transfer_len.Goals as goal
 

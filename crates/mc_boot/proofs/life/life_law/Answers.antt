@@ -1,6 +1,5 @@
 use Rattle.mc_boot.proofs.LifeProof as proof
-use Rattle.mc_boot.proofs.DeliveredStarts.{starts_law}
-use Rattle.mc_boot.proofs.Wearing.{wear_law, work_law}
+use Rattle.mc_boot.proofs.{DeliveredStarts.{starts_law}, Wearing.{wear_law, work_law}}
 use Rattle.mc_boot.proofs.life.life_law.Goals as goal
 
 pub returns-clause-life : goal.returns-clause-life

@@ -1,7 +1,5 @@
-use Rattle.std.proofs.Common.{◌≡◌, ℕ, ◌+◌, ◌*◌, ◌≤◌, Fits, w32, refl, arith}
-use Rattle.std.proofs.lemmas.Bool.{eq-eqb}
-use Rattle.mc_flash.specs.Geometry.{Geometry, IsLayout, trailer_sectors}
-use Rattle.mc_flash.specs.facts.Usage.{few_sectors}
+use Rattle.std.proofs.{Common.{◌≡◌, ℕ, ◌+◌, ◌*◌, ◌≤◌, Fits, w32, refl, arith}, lemmas.Bool.{eq-eqb}}
+use Rattle.mc_flash.specs.{Geometry.{Geometry, IsLayout, trailer_sectors}, facts.Usage.{few_sectors}}
 use Rattle.mc_boot.proofs.Plans.{few_counted, thrice}
 use Rattle.mc_boot.proofs.shared_tail.erases_of.Goals as goal
 

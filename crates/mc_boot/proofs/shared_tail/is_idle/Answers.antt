@@ -1,12 +1,8 @@
 use Rattle.std.proofs.Common.{◌≡◌, ◌+◌, ◌*◌, ◌≤◌, ℕ, Fits, w64, arith}
-use Rattle.mc_flash.specs.Flash.{CanTry, size_of}
-use Rattle.mc_flash.specs.Geometry.{Geometry, IsLayout, in_pieces}
-use Rattle.mc_flash.specs.declared.op.Op.{Op}
-use Rattle.mc_flash.specs.declared.op.Op.TheVariants.{Erase}
+use Rattle.mc_flash.specs.{Flash.{CanTry, size_of}, Geometry.{Geometry, IsLayout, in_pieces}, declared.op.Op.{Op}, declared.op.Op.TheVariants.{Erase}}
 use Rattle.mc_flash.specs.declared.op.Slot.{Slot}
 use Rattle.mc_boot.specs.declared.course.Course.{Course}
-use Rattle.mc_boot.proofs.Courses.{slot_small}
-use Rattle.mc_boot.proofs.SharedTailProof.{sector_there}
+use Rattle.mc_boot.proofs.{Courses.{slot_small}, SharedTailProof.{sector_there}}
 use Rattle.mc_boot.proofs.shared_tail.is_idle.Goals as goal
 
 -- a sector that an operation of a course erases lies in its slot

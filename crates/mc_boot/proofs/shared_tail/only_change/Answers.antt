@@ -1,7 +1,6 @@
 use Rattle.std.proofs.Common.{◌≡◌, ◌≢◌, ℕ, IfSome, slice_get, true, arith, ◌∙◌, sym}
 use borrow.Author.Count.{below_more}
-use Rattle.mc_boot.specs.Boot.{course_list}
-use Rattle.mc_boot.specs.inner.Idle.{changes_nothing}
+use Rattle.mc_boot.specs.{Boot.{course_list}, inner.Idle.{changes_nothing}}
 use Rattle.mc_boot.proofs.shared_tail.only_change.Goals as goal
 use Rattle.mc_boot.proofs.shared_tail.only_change.Goals.{then-not-is_idle+else-only-count, else-not-is_idle}
 

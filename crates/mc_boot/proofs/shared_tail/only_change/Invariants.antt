@@ -1,5 +1,4 @@
-use Rattle.mc_boot.specs.Boot.{course_list}
-use Rattle.mc_boot.specs.inner.Idle.{AllIdleBut}
+use Rattle.mc_boot.specs.{Boot.{course_list}, inner.Idle.{AllIdleBut}}
 use Rattle.mc_boot.proofs.shared_tail.only_change.Given as goal
 
 abbrev pub invariant-loop-number : goal.invariant-loop-number

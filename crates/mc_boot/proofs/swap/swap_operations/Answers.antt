@@ -1,6 +1,5 @@
 use Rattle.std.proofs.Common.{sym, ◌∙◌}
-use Rattle.mc_boot.proofs.RestartProof.{makes_swap}
-use Rattle.mc_boot.proofs.Sections.{same_length}
+use Rattle.mc_boot.proofs.{RestartProof.{makes_swap}, Sections.{same_length}}
 use Rattle.mc_boot.proofs.swap.swap_operations.Goals as goal
 
 pub returns-clause-made : goal.returns-clause-made

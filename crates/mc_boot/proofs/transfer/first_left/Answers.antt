@@ -1,7 +1,6 @@
 use Rattle.std.proofs.Common.{sym, arith, refl}
 use Rattle.mc_boot.specs.Plan.{moved_up}
-use Rattle.mc_boot.proofs.Courses.{get_moved}
-use Rattle.mc_boot.proofs.Transfers.{left_after, left_none, left_at_pair}
+use Rattle.mc_boot.proofs.{Courses.{get_moved}, Transfers.{left_after, left_none, left_at_pair}}
 use Rattle.mc_boot.proofs.transfer.first_left.Goals as goal
 use Rattle.mc_boot.proofs.transfer.first_left.Goals.{else-entry-max_sectors-via-then-entry-max_sectors+else-entry-max_sectors-2, else-entry-max_sectors-via-else-entry-max_sectors}
 

@@ -1,5 +1,4 @@
-use Rattle.std.specs.Prelude.{◌≡◌, codes, decimal, refl}
-use Rattle.std.specs.Fmt.{digits}
+use Rattle.std.specs.{Prelude.{◌≡◌, codes, decimal, refl}, Fmt.{digits}}
 use Rattle.std.proofs.Common.{arith, ap, ◌∙◌}
 use Rattle.mc_campaign.proofs.campaign.digit_of.Goals as goal
 

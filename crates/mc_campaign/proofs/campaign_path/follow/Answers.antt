@@ -1,5 +1,4 @@
-use Rattle.mc_campaign.proofs.Along.{along_more, none_there, stops_there}
-use Rattle.mc_campaign.proofs.CutsInRounds.{is_none}
+use Rattle.mc_campaign.proofs.{Along.{along_more, none_there, stops_there}, CutsInRounds.{is_none}}
 use Rattle.mc_campaign.proofs.campaign_path.follow.Goals as goal
 
 pub returns-in_default-clause-follows : goal.returns-in_default-clause-follows

@@ -1,13 +1,10 @@
-use Rattle.std.proofs.Common.{◌≡◌, ℕ, ◌+◌, ◌≤◌, length, inr, sym, ap, ◌∙◌, arith, subst}
-use Rattle.std.proofs.lemmas.Result.{err_from_is_err_and}
+use Rattle.std.proofs.{Common.{◌≡◌, ℕ, ◌+◌, ◌≤◌, length, inr, sym, ap, ◌∙◌, arith, subst}, lemmas.Result.{err_from_is_err_and}}
 use Rattle.mc_flash.specs.Usage.{limits_for}
 use Rattle.mc_trailer.specs.declared.tables.Rules.{Rules}
 use Rattle.mc_boot.specs.Outcome.{shown}
 use Rattle.mc_start.specs.Start.{begun}
 use Rattle.mc_campaign.specs.Campaigns.{RefusesCampaign}
-use Rattle.mc_campaign.proofs.Loaded.{room_for_one}
-use Rattle.mc_campaign.proofs.CutsInRounds.{in_round_few}
-use Rattle.mc_campaign.proofs.Replays.{refused_first, refused_later, replayed_both}
+use Rattle.mc_campaign.proofs.{Loaded.{room_for_one}, CutsInRounds.{in_round_few}, Replays.{refused_first, refused_later, replayed_both}}
 use Rattle.mc_campaign.proofs.Restarts.{campaign_restarts}
 use Rattle.mc_campaign.proofs.campaign_replays.replay_campaign.Goals as goal
 

@@ -1,6 +1,5 @@
 use Rattle.std.proofs.Common.{length, arith, sym, ◌+◌, ◌∙◌}
-use Rattle.mc_campaign.proofs.Loaded.{room_for_one}
-use Rattle.mc_campaign.proofs.Starting.{begins_second, either_way}
+use Rattle.mc_campaign.proofs.{Loaded.{room_for_one}, Starting.{begins_second, either_way}}
 use Rattle.mc_campaign.proofs.campaign_replays.start_of_second.Goals as goal
 
 pub settle-requires : goal.settle-requires

@@ -1,8 +1,7 @@
 use Rattle.std.specs.Prelude.{◌≡◌, ◌∷◌, ◌++◌, codes, Some}
 use Rattle.std.proofs.Common.{rules, sym, ap, ◌∙◌}
 use Rattle.mc_start.specs.Cursor.{rules_text, start_text}
-use Rattle.mc_campaign.specs.Texts.{choice_text, campaign_text}
-use Rattle.mc_campaign.specs.declared.cursor.CampaignCursor.{CampaignCursor}
+use Rattle.mc_campaign.specs.{Texts.{choice_text, campaign_text}, declared.cursor.CampaignCursor.{CampaignCursor}}
 use Rattle.mc_campaign.proofs.Reading.{beyond_word, lacks_choice, one_choice, field_of, cursor_is}
 use Rattle.mc_campaign.proofs.cursor_reading.cursor_of.Goals as goal
 

@@ -1,10 +1,7 @@
 use Rattle.std.proofs.Common.{Bool, ap, ◌∙◌, []}
 use Rattle.mc_tree.specs.Tree.{After}
-use Rattle.mc_explore.specs.Subject.{rows_of}
-use Rattle.mc_explore.specs.facts.Listings.{pages_join, past_page}
-use Rattle.mc_campaign.specs.Page.{last_campaign}
-use Rattle.mc_campaign.specs.Rows.{campaigns, State}
-use Rattle.mc_campaign.specs.facts.Listed.{campaigns_are_lawful}
+use Rattle.mc_explore.specs.{Subject.{rows_of}, facts.Listings.{pages_join, past_page}}
+use Rattle.mc_campaign.specs.{Page.{last_campaign}, Rows.{campaigns, State}, facts.Listed.{campaigns_are_lawful}}
 use Rattle.std.specs.Prelude.{take}
 use Rattle.mc_campaign.proofs.laws.campaign_pages_join_up.Goals as goal
 

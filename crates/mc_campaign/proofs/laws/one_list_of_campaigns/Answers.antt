@@ -1,7 +1,5 @@
-use Rattle.mc_explore.specs.Subject.{rows_of}
-use Rattle.mc_explore.specs.facts.Listings.{one_rest, rest_tail, in_order}
-use Rattle.mc_campaign.specs.Rows.{campaigns}
-use Rattle.mc_campaign.specs.facts.Listed.{campaigns_are_lawful}
+use Rattle.mc_explore.specs.{Subject.{rows_of}, facts.Listings.{one_rest, rest_tail, in_order}}
+use Rattle.mc_campaign.specs.{Rows.{campaigns}, facts.Listed.{campaigns_are_lawful}}
 use Rattle.mc_campaign.proofs.laws.one_list_of_campaigns.Goals as goal
 
 pub returns-clause-some : goal.returns-clause-some

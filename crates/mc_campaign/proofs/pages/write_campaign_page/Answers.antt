@@ -1,5 +1,4 @@
-use Rattle.mc_explore.specs.facts.Whole.{whole_page, whole_began}
-use Rattle.mc_explore.specs.Subject.{rows_of}
+use Rattle.mc_explore.specs.{facts.Whole.{whole_page, whole_began}, Subject.{rows_of}}
 use Rattle.mc_campaign.specs.Rows.{campaigns}
 use Rattle.mc_output.specs.facts.Results.{on_err, on_ok}
 use Rattle.mc_campaign.proofs.pages.write_campaign_page.Goals as goal

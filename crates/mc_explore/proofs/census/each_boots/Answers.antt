@@ -1,7 +1,5 @@
-use Rattle.std.proofs.Common.{◌≡◌, false, is_some, not, sym, ap, ◌∙◌, arith}
-use Rattle.std.proofs.lemmas.List.Elements.{All-from_recursion, All-weaker, recursion_from_All}
-use Rattle.mc_explore.specs.Survey.{is_boot}
-use Rattle.mc_explore.specs.declared.census.CensusOf.{CensusOf}
+use Rattle.std.proofs.{Common.{◌≡◌, false, is_some, not, sym, ap, ◌∙◌, arith}, lemmas.List.Elements.{All-from_recursion, All-weaker, recursion_from_All}}
+use Rattle.mc_explore.specs.{Survey.{is_boot}, declared.census.CensusOf.{CensusOf}}
 use Rattle.mc_explore.proofs.JudgedRows.{all_found, boots_if, boots_then, none_found}
 use Rattle.mc_explore.proofs.census.each_boots.Goals as goal
 

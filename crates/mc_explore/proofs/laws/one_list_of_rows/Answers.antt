@@ -1,6 +1,4 @@
-use Rattle.mc_explore.specs.Rows.{schedules}
-use Rattle.mc_explore.specs.facts.Listed.{schedules_are_lawful}
-use Rattle.mc_explore.specs.facts.Listings.{one_rest, rest_tail, in_order}
+use Rattle.mc_explore.specs.{Rows.{schedules}, facts.Listed.{schedules_are_lawful}, facts.Listings.{one_rest, rest_tail, in_order}}
 use Rattle.mc_explore.proofs.Continued.{longer_first}
 use Rattle.mc_explore.proofs.laws.one_list_of_rows.Goals as goal
 

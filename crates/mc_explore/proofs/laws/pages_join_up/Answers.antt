@@ -1,6 +1,4 @@
-use Rattle.mc_explore.specs.Rows.{schedules}
-use Rattle.mc_explore.specs.facts.Listed.{schedules_are_lawful}
-use Rattle.mc_explore.specs.facts.Listings.{pages_join}
+use Rattle.mc_explore.specs.{Rows.{schedules}, facts.Listed.{schedules_are_lawful}, facts.Listings.{pages_join}}
 use Rattle.mc_explore.proofs.Continued.{page_resumes}
 use Rattle.mc_explore.proofs.laws.pages_join_up.Goals as goal
 

@@ -1,7 +1,5 @@
-use Rattle.std.proofs.Common.{◌≡◌, ◌-◌, suc, arith}
-use Rattle.std.proofs.lemmas.Result.{err_from_is_err_and}
-use Rattle.mc_explore.proofs.PageRows.{row_paid}
-use Rattle.mc_explore.proofs.PageText.{began_before, began_in_row, end_began, end_out, full_began, full_out, last_index, page_on}
+use Rattle.std.proofs.{Common.{◌≡◌, ◌-◌, suc, arith}, lemmas.Result.{err_from_is_err_and}}
+use Rattle.mc_explore.proofs.{PageRows.{row_paid}, PageText.{began_before, began_in_row, end_began, end_out, full_began, full_out, last_index, page_on}}
 use Rattle.mc_output.specs.facts.Results.{on_err, on_ok}
 use Rattle.mc_explore.proofs.pages.write_lines.Goals as goal
 

@@ -1,5 +1,4 @@
-use Rattle.mc_explore.specs.facts.Whole.{whole_page, whole_began}
-use Rattle.mc_explore.specs.Rows.{schedules}
+use Rattle.mc_explore.specs.{facts.Whole.{whole_page, whole_began}, Rows.{schedules}}
 use Rattle.mc_output.specs.facts.Results.{on_err, on_ok}
 use Rattle.mc_explore.proofs.pages.write_page.Goals as goal
 

@@ -1,7 +1,6 @@
 use Rattle.std.proofs.Common.{length, sym, ap, subst, ◌∙◌}
 use Rattle.mc_boot.specs.Plan.{PowerOn}
-use Rattle.mc_explore.specs.inner.OneRound.{begun_of}
-use Rattle.mc_explore.specs.inner.View.{IsLoaded}
+use Rattle.mc_explore.specs.{inner.OneRound.{begun_of}, inner.View.{IsLoaded}}
 use Rattle.mc_explore.proofs.Walks.{cut_here, layout_here}
 use Rattle.mc_explore.proofs.replays.flash_at_cut.Goals as goal
 

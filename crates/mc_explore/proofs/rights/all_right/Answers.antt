@@ -1,7 +1,5 @@
-use Rattle.std.proofs.Common.{◌≡◌, false, is_some, not, sym, ap, ◌∙◌, arith}
-use Rattle.std.proofs.lemmas.List.Elements.{All-from_recursion, recursion_from_All}
-use Rattle.mc_explore.specs.Right.{is_right}
-use Rattle.mc_explore.specs.declared.rights.RightsOf.{RightsOf}
+use Rattle.std.proofs.{Common.{◌≡◌, false, is_some, not, sym, ap, ◌∙◌, arith}, lemmas.List.Elements.{All-from_recursion, recursion_from_All}}
+use Rattle.mc_explore.specs.{Right.{is_right}, declared.rights.RightsOf.{RightsOf}}
 use Rattle.mc_explore.proofs.JudgedRows.{all_found, none_found}
 use Rattle.mc_explore.proofs.rights.all_right.Goals as goal
 

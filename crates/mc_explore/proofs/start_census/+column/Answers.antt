@@ -1,17 +1,13 @@
 use Rattle.std.proofs.Common.{Some, [], ap, arith, length, length-append, refl, subst, suc, sym, ℕ, ◌++◌, ◌+◌, ◌-◌, ◌∙◌, ◌∷◌, ◌≡◌}
 use Rattle.mc_boot.specs.Outcome.{shown}
-use Rattle.mc_explore.proofs.Counting.{is_joined, weigh_is}
-use Rattle.mc_explore.proofs.Passing.{come_below, own_there, passes_all, passes_none, tail_there, weights_there}
-use Rattle.mc_explore.specs.facts.Children.{HasCome, IsAtChild, can_pass, come_on, listed_there, reached, width_here}
-use Rattle.mc_explore.specs.Right.{judged}
-use Rattle.mc_explore.specs.declared.table.Below.{Below}
-use Rattle.mc_explore.specs.inner.Table.{AreRuns, HasWeights, IsChild, IsJoined, own_totals, paths_of, weigh_below}
+use Rattle.mc_explore.proofs.{Counting.{is_joined, weigh_is}, Passing.{come_below, own_there, passes_all, passes_none, tail_there, weights_there}}
+use Rattle.mc_explore.specs.{facts.Children.{HasCome, IsAtChild, can_pass, come_on, listed_there, reached, width_here}, Right.{judged}}
+use Rattle.mc_explore.specs.{declared.table.Below.{Below}, inner.Table.{AreRuns, HasWeights, IsChild, IsJoined, own_totals, paths_of, weigh_below}}
 use Rattle.mc_explore.specs.inner.Totals.{merged, cut_off, report_totals, totals}
 use Rattle.mc_tree.specs.inner.Weights.{from}
 use Rattle.mc_walk.specs.Walks.{origin_of}
 use Rattle.mc_explore.proofs.start_census.+column.Goals as goal
-use Rattle.mc_explore.proofs.start_census.+column.Given.{Over}
-use Rattle.mc_explore.proofs.start_census.+column.Goals.{In_ok-end, in-Some, in-None+in_ok-column-in-None}
+use Rattle.mc_explore.proofs.{start_census.+column.Given.{Over}, start_census.+column.Goals.{In_ok-end, in-Some, in-None+in_ok-column-in-None}}
 
 pub returns-then-bound-eq0-clause-passes : goal.returns-then-bound-eq0-clause-passes
 returns-then-bound-eq0-clause-passes g t c = passes_none g.X.FlashTree.model c.args.walk.now c.requires.stands

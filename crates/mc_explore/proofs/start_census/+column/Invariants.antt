@@ -1,5 +1,4 @@
-use Rattle.mc_explore.specs.facts.Children.{HasCome}
-use Rattle.mc_explore.specs.inner.Table.{AreRuns, paths_of, weigh_below}
+use Rattle.mc_explore.specs.{facts.Children.{HasCome}, inner.Table.{AreRuns, paths_of, weigh_below}}
 use Rattle.mc_walk.specs.Walks.{origin_of}
 use Rattle.mc_explore.proofs.start_census.+column.Given as goal
 

@@ -1,10 +1,6 @@
 use Rattle.std.proofs.Common.{Some, ap, arith, map, option_map, subst, sym, ℕ, ◌∙◌, ◌≡◌}
-use Rattle.mc_explore.proofs.Counting.{Census, first_member, is_census}
-use Rattle.mc_explore.proofs.Passing.{root_weighs}
-use Rattle.mc_explore.specs.Pages.{IsRest}
-use Rattle.mc_explore.specs.Subject.{at_start, rows_of}
-use Rattle.mc_explore.specs.inner.Table.{paths_of, weigh}
-use Rattle.mc_explore.specs.inner.Totals.{Totals, cut_off}
+use Rattle.mc_explore.proofs.{Counting.{Census, first_member, is_census}, Passing.{root_weighs}}
+use Rattle.mc_explore.specs.{Pages.{IsRest}, Subject.{at_start, rows_of}, inner.Table.{paths_of, weigh}, inner.Totals.{Totals, cut_off}}
 use Rattle.mc_start.specs.Start.{begun}
 use Rattle.mc_tree.specs.facts.Existence.{all_from}
 use Rattle.mc_walk.specs.Walks.{origin_of}

@@ -1,8 +1,7 @@
 use Rattle.mc_explore.proofs.Passing.{tail_at}
 use Rattle.mc_explore.specs.facts.Children.{child_here}
 use Rattle.mc_tree.specs.Tree.{landed}
-use Rattle.mc_walk.specs.TreeModel.{HasChild}
-use Rattle.mc_walk.specs.Walks.{root_of}
+use Rattle.mc_walk.specs.{TreeModel.{HasChild}, Walks.{root_of}}
 use Rattle.mc_explore.proofs.start_census.tail_here.Goals as goal
 
 pub shared_tail-requires : goal.shared_tail-requires

@@ -1,10 +1,7 @@
-use Rattle.std.proofs.Common.{◌≡◌, ℕ, suc, ◌+◌, List, subst, [], ◌∷◌, ◌++◌, length, replicate, ap, arith}
-use Rattle.std.proofs.lemmas.Grind.{common_steps}
+use Rattle.std.proofs.{Common.{◌≡◌, ℕ, suc, ◌+◌, List, subst, [], ◌∷◌, ◌++◌, length, replicate, ap, arith}, lemmas.Grind.{common_steps}}
 use Rattle.std.proofs.lemmas.List.{length-append, length-replicate}
-use Rattle.mc_explore.specs.inner.Table.{IsLevel}
-use Rattle.mc_explore.specs.inner.Totals.{merged, totals}
-use Rattle.mc_explore.proofs.Counting.{Census, more_cut_off}
-use Rattle.mc_explore.proofs.Runs.{all_there, none_cut_off}
+use Rattle.mc_explore.specs.{inner.Table.{IsLevel}, inner.Totals.{merged, totals}}
+use Rattle.mc_explore.proofs.{Counting.{Census, more_cut_off}, Runs.{all_there, none_cut_off}}
 use Rattle.mc_tree.specs.inner.Weights.{from}
 use Rattle.mc_explore.proofs.table.column_of.Goals as goal
 

@@ -1,6 +1,5 @@
 use Rattle.std.proofs.Common.{◌≡◌, ℕ, length}
-use Rattle.mc_explore.specs.inner.Table.{AreCutOff, AreRuns, IsLevel}
-use Rattle.mc_explore.specs.inner.Totals.{Totals, merged, cut_off, no_totals, totals}
+use Rattle.mc_explore.specs.{inner.Table.{AreCutOff, AreRuns, IsLevel}, inner.Totals.{Totals, merged, cut_off, no_totals, totals}}
 use Rattle.mc_tree.specs.inner.Weights.{from}
 use Rattle.mc_explore.proofs.table.column_of.Given as goal
 

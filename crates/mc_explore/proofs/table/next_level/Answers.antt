@@ -1,10 +1,7 @@
-use Rattle.std.proofs.Common.{◌≡◌, ℕ, suc, List, [], ◌∷◌, ◌++◌, length, refl, sym, ap, ◌∙◌, arith}
-use Rattle.std.proofs.lemmas.List.{length-append}
+use Rattle.std.proofs.{Common.{◌≡◌, ℕ, suc, List, [], ◌∷◌, ◌++◌, length, refl, sym, ap, ◌∙◌, arith}, lemmas.List.{length-append}}
 use Rattle.std.proofs.lemmas.Option.{slice_get_read}
-use Rattle.mc_explore.proofs.Counting.{Census, more_cut_off}
-use Rattle.mc_explore.proofs.Runs.{begin_is}
-use Rattle.mc_explore.specs.inner.Table.{begin_of}
-use Rattle.mc_explore.specs.inner.Totals.{cut_off}
+use Rattle.mc_explore.proofs.{Counting.{Census, more_cut_off}, Runs.{begin_is}}
+use Rattle.mc_explore.specs.{inner.Table.{begin_of}, inner.Totals.{cut_off}}
 use Rattle.mc_explore.proofs.table.next_level.Goals as goal
 
 pub loop-run-preserved : goal.loop-run-preserved

@@ -1,8 +1,6 @@
-use Rattle.std.proofs.Common.{rules, subst, sym}
-use Rattle.std.proofs.lemmas.List.Sorted.{IsPartitionPoint-from_clause}
+use Rattle.std.proofs.{Common.{rules, subst, sym}, lemmas.List.Sorted.{IsPartitionPoint-from_clause}}
 use Rattle.std.specs.Prelude.{nat_le}
-use Rattle.mc_explore.specs.declared.table.Run.{Run}
-use Rattle.mc_explore.specs.inner.Table.{Begins}
+use Rattle.mc_explore.specs.{declared.table.Run.{Run}, inner.Table.{Begins}}
 use Rattle.mc_explore.proofs.Runs.{last_begun, parted}
 use Rattle.mc_explore.proofs.table.run_of.Goals as goal
 

@@ -1,10 +1,7 @@
-use Rattle.std.proofs.Common.{◌≡◌, ◌<◌, ℕ, suc, ◌+◌, ◌-◌, ◌∷◌, ◌++◌, [], length, List, ap, sym, ◌∙◌, arith}
-use Rattle.std.proofs.lemmas.List.{length-append}
+use Rattle.std.proofs.{Common.{◌≡◌, ◌<◌, ℕ, suc, ◌+◌, ◌-◌, ◌∷◌, ◌++◌, [], length, List, ap, sym, ◌∙◌, arith}, lemmas.List.{length-append}}
 use Rattle.mc_tree.specs.inner.Weights.{from}
-use Rattle.mc_explore.specs.inner.Table.{IsLevel, begin_of, rest_from}
-use Rattle.mc_explore.specs.inner.Totals.{Totals, cut_off, totals}
-use Rattle.mc_explore.proofs.Counting.{Census, more_cut_off}
-use Rattle.mc_explore.proofs.Runs.{none_left, rest_parts}
+use Rattle.mc_explore.specs.{inner.Table.{IsLevel, begin_of, rest_from}, inner.Totals.{Totals, cut_off, totals}}
+use Rattle.mc_explore.proofs.{Counting.{Census, more_cut_off}, Runs.{none_left, rest_parts}}
 use Rattle.mc_explore.proofs.table.sums.Goals as goal
 
 pub loop-later-init : goal.loop-later-init

@@ -1,6 +1,4 @@
-use Rattle.std.proofs.Common.{arith, ap}
-use Rattle.std.proofs.lemmas.Bool.Decides.{nat_tests}
-use Rattle.std.proofs.lemmas.List.Elements.{All-from_recursion, recursion_from_All}
+use Rattle.std.proofs.{Common.{arith, ap}, lemmas.Bool.Decides.{nat_tests}, lemmas.List.Elements.{All-from_recursion, recursion_from_All}}
 use Rattle.mc_explore.specs.declared.tally.TallyOf.{TallyOf}
 use Rattle.mc_explore.proofs.Counted.{all_counted, counted}
 use Rattle.mc_explore.proofs.tally.all_boot.Goals as goal

@@ -2,8 +2,7 @@ use Rattle.std.proofs.Common.{◌≡◌, ◌+◌, ◌-◌, ◌*◌, ◌<◌, ◌
 use Rattle.mc_tree.specs.Tree.{Lost, After}
 use Rattle.mc_explore.specs.declared.error.ExploreError.TheVariants as errors
 use Rattle.mc_explore.specs.declared.tally.TallyOf.{TallyOf}
-use Rattle.mc_explore.proofs.Counted.{count_begin, count_on, counted_full, counted_short, counted_within, last_counted}
-use Rattle.mc_explore.proofs.PageRows.{row_paid}
+use Rattle.mc_explore.proofs.{Counted.{count_begin, count_on, counted_full, counted_short, counted_within, last_counted}, PageRows.{row_paid}}
 use Rattle.mc_explore.proofs.tally.survey_rows.Given.{Over}
 use Rattle.mc_explore.proofs.tally.survey_rows.Goals as goal
 use Rattle.mc_explore.proofs.tally.survey_rows.Goals.{After-add}

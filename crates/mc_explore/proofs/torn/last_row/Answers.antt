@@ -1,7 +1,5 @@
-use Rattle.std.proofs.Common.{List, ◌++◌, ap, drop, take, sym, ◌∙◌, append_assoc}
-use Rattle.std.proofs.lemmas.List.{take-append-drop}
-use Rattle.mc_explore.specs.Page.{page_at}
-use Rattle.mc_explore.specs.Rows.{ShownRow}
+use Rattle.std.proofs.{Common.{List, ◌++◌, ap, drop, take, sym, ◌∙◌, append_assoc}, lemmas.List.{take-append-drop}}
+use Rattle.mc_explore.specs.{Page.{page_at}, Rows.{ShownRow}}
 use Rattle.mc_explore.proofs.TornPages.{row_read, other_read, all_read, continues, rest_shown}
 use Rattle.mc_explore.proofs.torn.last_row.Goals as goal
 

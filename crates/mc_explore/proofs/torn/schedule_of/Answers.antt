@@ -1,8 +1,7 @@
 use Rattle.std.proofs.Common.{sym, subst, ◌∙◌}
 use Rattle.std.specs.Str.{IsUtf8}
 use Rattle.mc_explore.specs.Survey.{IsRowLine}
-use Rattle.mc_explore.proofs.Bytes.{schedule_utf8}
-use Rattle.mc_explore.proofs.TornPages.{spaceless, before_space, unread}
+use Rattle.mc_explore.proofs.{Bytes.{schedule_utf8}, TornPages.{spaceless, before_space, unread}}
 use Rattle.mc_explore.proofs.torn.schedule_of.Goals as goal
 
 pub returns-in_default-clause-none : goal.returns-in_default-clause-none

@@ -1,5 +1,4 @@
-use Rattle.std.proofs.Common.{◌^◌, eqb, sym, ap, ◌∙◌, arith, w8}
-use Rattle.std.proofs.lemmas.Simd.{bitmask_splat}
+use Rattle.std.proofs.{Common.{◌^◌, eqb, sym, ap, ◌∙◌, arith, w8}, lemmas.Simd.{bitmask_splat}}
 use Rattle.mc_flash.proofs.Lanes.{every_lane}
 use Rattle.mc_flash.proofs.erased.blank_lanes.Goals as goal
 

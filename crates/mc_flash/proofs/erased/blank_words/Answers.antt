@@ -1,6 +1,4 @@
-use Rattle.std.proofs.Common.{◌&&◌, eqb, rules, tests, sym, ap, ◌∙◌}
-use Rattle.std.proofs.lemmas.Iterator.{YieldsList-from_slice}
-use Rattle.std.proofs.lemmas.Iterator.Search.{all_from_yields_List}
+use Rattle.std.proofs.{Common.{◌&&◌, eqb, rules, tests, sym, ap, ◌∙◌}, lemmas.Iterator.{YieldsList-from_slice}, lemmas.Iterator.Search.{all_from_yields_List}}
 use Rattle.mc_flash.specs.Flash.{is_blank}
 use Rattle.mc_flash.proofs.Lanes.{by_groups}
 use Rattle.mc_flash.proofs.erased.blank_words.Goals as goal

@@ -1,8 +1,6 @@
 use Rattle.std.proofs.Common.{◌≡◌, ◌+◌, ◌-◌, ◌≤◌, length, refl, sym, ap, subst, ◌∙◌, arith}
 use Rattle.std.specs.List.{AllByRecursion}
-use Rattle.mc_flash.specs.Geometry.{Geometry}
-use Rattle.mc_flash.specs.Flash.{bytes_of, with_bytes, put}
-use Rattle.mc_flash.specs.inner.Journal.{Journal, journal_with, IsInside}
+use Rattle.mc_flash.specs.{Geometry.{Geometry}, Flash.{bytes_of, with_bytes, put}, inner.Journal.{Journal, journal_with, IsInside}}
 use Rattle.mc_flash.specs.declared.entry.Entry.TheVariants.{Written, Erased}
 use Rattle.mc_flash.proofs.Undo.{by_write, same_earlier, newest, same_prefix, saved_last, erase_undone}
 use Rattle.mc_flash.proofs.journal.undo_to.Goals as goal

@@ -1,5 +1,4 @@
-use Rattle.std.proofs.Common.{arith}
-use Rattle.std.proofs.lemmas.Grind.{common_steps}
+use Rattle.std.proofs.{Common.{arith}, lemmas.Grind.{common_steps}}
 use Rattle.mc_flash.proofs.reserve.most_operations.Goals as goal
 
 pub returns-in-Call-clause-at_most : goal.returns-in-Call-clause-at_most

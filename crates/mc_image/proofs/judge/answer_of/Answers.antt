@@ -1,7 +1,5 @@
-use Rattle.std.proofs.Common.{◌+◌, arith, sym, ◌∙◌}
-use Rattle.std.proofs.lemmas.Result.{err_from_is_err_and}
-use Rattle.mc_image.proofs.Scans.{digest_stands}
-use Rattle.mc_image.proofs.JudgeLaws.{entries_error, digest_wrong, digest_right, sealed_len}
+use Rattle.std.proofs.{Common.{◌+◌, arith, sym, ◌∙◌}, lemmas.Result.{err_from_is_err_and}}
+use Rattle.mc_image.proofs.{Scans.{digest_stands}, JudgeLaws.{entries_error, digest_wrong, digest_right, sealed_len}}
 use Rattle.mc_image.proofs.judge.answer_of.Goals as goal
 
 pub returns-in_err-digest : goal.returns-in_err-digest

@@ -1,5 +1,4 @@
-use Rattle.std.proofs.Common.{◌≡◌, ◌-◌, ◌≤◌, ℕ, suc, List, [], ◌∷◌, length, take, drop, get_or, Some, refl, arith}
-use Rattle.std.proofs.lemmas.List.{take_all}
+use Rattle.std.proofs.{Common.{◌≡◌, ◌-◌, ◌≤◌, ℕ, suc, List, [], ◌∷◌, length, take, drop, get_or, Some, refl, arith}, lemmas.List.{take_all}}
 use Rattle.mc_image.specs.inner.VersionReading.{numeral_at}
 use Rattle.mc_image.proofs.reading.numeral_at.Goals as goal
 

@@ -1,9 +1,7 @@
-use Rattle.std.proofs.Common.{◌≡◌, ◌+◌, ◌-◌, ◌≤◌, ℕ, List, take, drop, length, None, false, refl, arith}
-use Rattle.std.specs.Prelude.{nat_lt}
-use Rattle.std.proofs.lemmas.Bool.Decides.{nat_tests}
+use Rattle.std.proofs.{Common.{◌≡◌, ◌+◌, ◌-◌, ◌≤◌, ℕ, List, take, drop, length, None, false, refl, arith}, lemmas.Bool.Decides.{nat_tests}}
 use Rattle.std.proofs.lemmas.List.{length-take, length-drop, take_rest}
-use Rattle.mc_image.specs.Image.{u16_at, u32_at, header_end, payload_end, protected_end, header_in, payload_in, protected_in, after_body}
-use Rattle.mc_image.specs.Valid.{body_fault}
+use Rattle.std.specs.Prelude.{nat_lt}
+use Rattle.mc_image.specs.{Image.{u16_at, u32_at, header_end, payload_end, protected_end, header_in, payload_in, protected_in, after_body}, Valid.{body_fault}}
 use Rattle.mc_image.proofs.view.body_of.Goals as goal
 
 -- the parts of bytes that are long enough

@@ -1,5 +1,4 @@
-use Rattle.std.proofs.Common.{◌≡◌, ◌+◌, ◌-◌, arith, [], ◌∷◌, ap, sym, ◌∙◌, take, drop, length}
-use Rattle.std.proofs.lemmas.Result.{err_from_is_err_and}
+use Rattle.std.proofs.{Common.{◌≡◌, ◌+◌, ◌-◌, arith, [], ◌∷◌, ap, sym, ◌∙◌, take, drop, length}, lemmas.Result.{err_from_is_err_and}}
 use Rattle.mc_image.proofs.Scans.{digest_stands}
 use Rattle.mc_image.proofs.view.digest_among.Goals as goal
 

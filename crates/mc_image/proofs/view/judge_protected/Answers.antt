@@ -1,5 +1,4 @@
-use Rattle.std.proofs.Common.{◌≡◌, [], false, true, refl}
-use Rattle.std.proofs.lemmas.Bool.{ne_eqb}
+use Rattle.std.proofs.{Common.{◌≡◌, [], false, true, refl}, lemmas.Bool.{ne_eqb}}
 use Rattle.mc_image.specs.Valid.{is_bad_area, protected_fault}
 use Rattle.mc_image.proofs.view.judge_protected.Goals as goal
 

@@ -1,6 +1,4 @@
-use Rattle.std.proofs.Common.{◌≤◌, arith, ap, sym, ◌∙◌, take, drop, length}
-use Rattle.std.proofs.lemmas.List.{take_rest}
-use Rattle.std.proofs.lemmas.Result.{err_from_is_err_and}
+use Rattle.std.proofs.{Common.{◌≤◌, arith, ap, sym, ◌∙◌, take, drop, length}, lemmas.List.{take_rest}, lemmas.Result.{err_from_is_err_and}}
 use Rattle.mc_image.specs.Image.{u16_at, entries_in, digests, area_in}
 use Rattle.mc_image.proofs.Scans.{head_first, plain_short, plain_entries, plain_none, beyond_error}
 use Rattle.mc_image.proofs.view.plain_of.Goals as goal

@@ -1,5 +1,4 @@
-use Rattle.std.proofs.Common.{◌∙◌, ap, length}
-use Rattle.std.proofs.Transfers.{starts_with_trans, starts_with_of_append}
+use Rattle.std.proofs.{Common.{◌∙◌, ap, length}, Transfers.{starts_with_trans, starts_with_of_append}}
 use Rattle.mc_image.proofs.Written.{on_ok, covered-written, protected_size}
 use Rattle.mc_image.proofs.writing.put_covered.Goals as goal
 

@@ -1,8 +1,6 @@
-use Rattle.std.proofs.Transfers.{starts_with_trans}
-use Rattle.std.proofs.Common.{rules, ◌≡◌, ◌∙◌, ◌++◌, ap, length, drop}
+use Rattle.std.proofs.{Transfers.{starts_with_trans}, Common.{rules, ◌≡◌, ◌∙◌, ◌++◌, ap, length, drop}}
 use Rattle.sha2.specs.Sha256.{sha256}
-use Rattle.mc_image.specs.Image.{covered_text}
-use Rattle.mc_image.specs.Writing.{image_of}
+use Rattle.mc_image.specs.{Image.{covered_text}, Writing.{image_of}}
 use Rattle.mc_image.proofs.Written.{on_ok, image-written, plain_size}
 use Rattle.mc_image.proofs.writing.put_image.Goals as goal
 

@@ -1,5 +1,4 @@
-use Rattle.std.proofs.Common.{arith}
-use Rattle.std.proofs.Transfers.{starts_with_trans}
+use Rattle.std.proofs.{Common.{arith}, Transfers.{starts_with_trans}}
 use Rattle.mc_image.proofs.writing.put_plain.Goals as goal
 
 pub returns-in_err-put_head-clause-kept : goal.returns-in_err-put_head-clause-kept

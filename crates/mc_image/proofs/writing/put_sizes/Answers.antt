@@ -1,5 +1,4 @@
-use Rattle.std.proofs.Transfers.{starts_with_trans}
-use Rattle.std.proofs.Common.{append_assoc}
+use Rattle.std.proofs.{Transfers.{starts_with_trans}, Common.{append_assoc}}
 use Rattle.mc_image.proofs.Written.{on_ok}
 use Rattle.mc_image.proofs.writing.put_sizes.Goals as goal
 

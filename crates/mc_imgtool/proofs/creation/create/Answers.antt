@@ -1,5 +1,4 @@
-use Rattle.std.proofs.Common.{◌≡◌, false, sym}
-use Rattle.std.proofs.lemmas.Result.{err_from_is_err_and}
+use Rattle.std.proofs.{Common.{◌≡◌, false, sym}, lemmas.Result.{err_from_is_err_and}}
 use Rattle.mc_imgtool.specs.Created.{created, needs_slot_size}
 use Rattle.mc_imgtool.proofs.Answering.{refused_reading, refused_making, refused_unread}
 use Rattle.mc_imgtool.proofs.Wanted.{created_wanted, created_needs, never_error, given_error, false_true}

@@ -1,6 +1,6 @@
 use Rattle.std.proofs.Common.{◌≡◌, ℕ, ◌-◌, ◌≤◌, Bool, cond, List, [], ◌∷◌, ◌++◌, length, take, replicate, Result, Ok, Err, OnOk, ◌∙◌, arith, append_assoc}
-use Rattle.std.specs.Prelude.{is_ok}
 use Rattle.std.proofs.lemmas.List.{take_all}
+use Rattle.std.specs.Prelude.{is_ok}
 use Rattle.mc_imgtool.specs.Created.{trailer_magic, filled_slot}
 use Rattle.mc_imgtool.proofs.creation.fill_slot.Goals as goal
 use Rattle.mc_imgtool.proofs.creation.fill_slot.Goals.{then-confirm, else-confirm}

@@ -1,10 +1,7 @@
 use Rattle.std.proofs.Common.{◌≡◌, ℕ, ◌-◌, ◌<◌, ◌≤◌, ◌==◌, Bool, true, false, List, length, take, drop, length-drop, refl, ap, ◌∙◌, arith}
-use Rattle.std.specs.Prelude.{nat_lt, not}
-use Rattle.std.specs.List.{list_all}
-use Rattle.std.proofs.lemmas.Bool.{lt-ltb, le-ltb}
-use Rattle.std.proofs.lemmas.List.{take_all}
-use Rattle.mc_imgtool.specs.Created.{lacks_zeros, payload_in}
-use Rattle.mc_imgtool.specs.declared.creation.CreateOptions.{CreateOptions}
+use Rattle.std.proofs.{lemmas.Bool.{lt-ltb, le-ltb}, lemmas.List.{take_all}}
+use Rattle.std.specs.{Prelude.{nat_lt, not}, List.{list_all}}
+use Rattle.mc_imgtool.specs.{Created.{lacks_zeros, payload_in}, declared.creation.CreateOptions.{CreateOptions}}
 use Rattle.mc_imgtool.proofs.creation.payload_in.Goals as goal
 use Rattle.mc_imgtool.proofs.creation.payload_in.Goals.{then-input-header-via-then-input-header as short, then-input-header-via-else-input-header+then-not-are_zeros as other}
 

@@ -1,11 +1,8 @@
 use Rattle.std.proofs.Common.{◌≡◌, ℕ, List, [], ◌++◌, Result, Ok, Err, length, length-append, take, drop, cond, inl, inr, refl, sym, ap, ◌∙◌, arith, ◌<◌, ◌≤◌, ◌⊎◌, Option, None, Some, IfSome}
+use Rattle.std.proofs.{KnownBytes.{Consumes-nil, Consumes-trans, Consumes-all, Consumes-kept}, lemmas.List.{take-append-le}}
 use Rattle.std.specs.Prelude.{is_ok, is_err, false}
-use Rattle.std.proofs.KnownBytes.{Consumes-nil, Consumes-trans, Consumes-all, Consumes-kept}
-use Rattle.std.proofs.lemmas.List.{take-append-le}
-use Rattle.mc_imgtool.specs.declared.error.ToolError.{ToolError}
-use Rattle.mc_imgtool.specs.declared.error.ToolError.TheVariants.{InputTooLong, Read, Memory}
-use Rattle.mc_imgtool.proofs.Answering.{has_room, fits_with_more, nothing, longer}
-use Rattle.mc_imgtool.proofs.input.read_bounded.Given.{Over}
+use Rattle.mc_imgtool.specs.{declared.error.ToolError.{ToolError}, declared.error.ToolError.TheVariants.{InputTooLong, Read, Memory}}
+use Rattle.mc_imgtool.proofs.{Answering.{has_room, fits_with_more, nothing, longer}, input.read_bounded.Given.{Over}}
 use Rattle.mc_imgtool.proofs.input.read_bounded.Goals as goal
 use Rattle.mc_imgtool.proofs.input.read_bounded.Goals.{Else-is_err}
 

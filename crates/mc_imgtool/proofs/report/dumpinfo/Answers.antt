@@ -1,7 +1,6 @@
 use Rattle.std.proofs.lemmas.Result.{err_from_is_err_and}
 use Rattle.mc_imgtool.specs.Lines.{dumped}
-use Rattle.mc_imgtool.proofs.Answering.{refused_reading, refused_making}
-use Rattle.mc_imgtool.proofs.Wanted.{dumped_wanted}
+use Rattle.mc_imgtool.proofs.{Answering.{refused_reading, refused_making}, Wanted.{dumped_wanted}}
 use Rattle.mc_imgtool.proofs.report.dumpinfo.Goals as goal
 
 pub returns-in_err-bytes-clause-answer : goal.returns-in_err-bytes-clause-answer

@@ -1,6 +1,5 @@
 use Rattle.std.proofs.Common.{◌≡◌, ℕ, List, ◌++◌, codes, decimal, length, string_bytes, IfOk, refl, subst, ap, ◌∙◌}
-use Rattle.mc_image.specs.Image.{Image, image_text}
-use Rattle.mc_image.specs.Valid.{is_good}
+use Rattle.mc_image.specs.{Image.{Image, image_text}, Valid.{is_good}}
 use Rattle.mc_imgtool.specs.Lines.{last_lines, judgement}
 use Rattle.mc_imgtool.proofs.report.last_lines.Goals as goal
 use Rattle.mc_imgtool.proofs.report.last_lines.Goals.{then-is_good, else-is_good}

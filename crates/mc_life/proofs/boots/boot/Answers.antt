@@ -1,8 +1,5 @@
 use Rattle.std.proofs.Common.{ap, ◌∙◌}
-use Rattle.mc_boot.specs.Boot.{progress}
-use Rattle.mc_boot.specs.Outcome.{shown}
-use Rattle.mc_boot.specs.Plan.{powered}
-use Rattle.mc_boot.specs.facts.Run.{come_left}
+use Rattle.mc_boot.specs.{Boot.{progress}, Outcome.{shown}, Plan.{powered}, facts.Run.{come_left}}
 use Rattle.mc_life.specs.Device.{worn}
 use Rattle.mc_life.proofs.Booting.{all_are, ended_all, outcome_on}
 use Rattle.mc_life.proofs.boots.boot.Goals as goal

@@ -1,10 +1,6 @@
 use Rattle.std.proofs.Common.{◌≡◌, ℕ, take, sym, ap, arith, ◌∙◌}
-use Rattle.mc_boot.specs.Boot.{progress, to_come}
-use Rattle.mc_boot.specs.Plan.{powered}
-use Rattle.mc_boot.specs.Outcome.{ops_of}
-use Rattle.mc_boot.specs.facts.Steps.{none_first}
-use Rattle.mc_flash.specs.Geometry.{Geometry}
-use Rattle.mc_flash.specs.Flash.{apply}
+use Rattle.mc_boot.specs.{Boot.{progress, to_come}, Plan.{powered}, Outcome.{ops_of}, facts.Steps.{none_first}}
+use Rattle.mc_flash.specs.{Geometry.{Geometry}, Flash.{apply}}
 use Rattle.std.specs.Option.{is_some}
 use Rattle.mc_life.specs.Device.{worn}
 use Rattle.mc_life.proofs.Booting.{decided, ended, prefix_is, too_late}

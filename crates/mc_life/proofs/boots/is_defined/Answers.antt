@@ -1,7 +1,6 @@
 use Rattle.std.proofs.Common.{List, ℕ, length, sym, ap, ◌∙◌}
 use Rattle.std.specs.Option.{is_some}
-use Rattle.mc_flash.specs.Flash.{apply}
-use Rattle.mc_flash.specs.declared.op.Op.{Op}
+use Rattle.mc_flash.specs.{Flash.{apply}, declared.op.Op.{Op}}
 use Rattle.mc_life.proofs.Booting.{copy_defined}
 use Rattle.mc_life.proofs.boots.is_defined.Goals as goal
 

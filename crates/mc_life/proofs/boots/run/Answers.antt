@@ -1,12 +1,9 @@
 use Rattle.std.proofs.Common.{rules, ◌≡◌, Result, Ok, Err, Some, IfSome, ◌<◌, slice_get, take, subst, inl, refl, sym, ap, ◌∙◌}
 use Rattle.mc_flash.specs.declared.flash.FlashError.{FlashError}
 use Rattle.mc_flash.specs.declared.flash.FlashError.TheVariants as errors
-use Rattle.mc_boot.specs.Boot.{Steps, progress, to_come}
-use Rattle.mc_boot.specs.Plan.{plan, powered}
+use Rattle.mc_boot.specs.{Boot.{Steps, progress, to_come}, Plan.{plan, powered}, facts.Steps.{none_first}}
 use Rattle.mc_life.specs.Device.{worn}
-use Rattle.mc_boot.specs.facts.Steps.{none_first}
-use Rattle.mc_life.proofs.Booting.{begins_below, begins_worn, below_next, below_same, come_on, count_next, count_refused, worn_next}
-use Rattle.mc_life.proofs.boots.run.Given.{Over}
+use Rattle.mc_life.proofs.{Booting.{begins_below, begins_worn, below_next, below_same, come_on, count_next, count_refused, worn_next}, boots.run.Given.{Over}}
 use Rattle.mc_life.proofs.boots.run.Goals.{In-Some}
 use Rattle.mc_life.proofs.boots.run.Goals as goal
 

@@ -1,6 +1,5 @@
 use Rattle.std.proofs.Common.{◌≡◌, length, take, IfSome, ◌≤◌}
-use Rattle.mc_boot.specs.Boot.{IsBootOf, progress, to_come, HasCome}
-use Rattle.mc_boot.specs.Plan.{plan, powered}
+use Rattle.mc_boot.specs.{Boot.{IsBootOf, progress, to_come, HasCome}, Plan.{plan, powered}}
 use Rattle.mc_life.specs.Device.{worn}
 use Rattle.mc_life.proofs.boots.run.Given as goal
 

@@ -1,5 +1,4 @@
-use Rattle.std.proofs.Common.{replicate, arith}
-use Rattle.std.proofs.lemmas.List.{length-take-le}
+use Rattle.std.proofs.{Common.{replicate, arith}, lemmas.List.{length-take-le}}
 use Rattle.mc_life.proofs.Reading.{prefix_bytes, long}
 use Rattle.mc_life.proofs.event.bytes_of.Goals as goal
 

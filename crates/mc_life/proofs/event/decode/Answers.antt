@@ -1,5 +1,4 @@
-use Rattle.std.proofs.Common.{List, ℕ, ◌≡◌, ◌++◌, true, false, length, ap, sym, ◌∙◌}
-use Rattle.std.proofs.lemmas.Slice.Eq.{bytes_eq-Decides}
+use Rattle.std.proofs.{Common.{List, ℕ, ◌≡◌, ◌++◌, true, false, length, ap, sym, ◌∙◌}, lemmas.Slice.Eq.{bytes_eq-Decides}}
 use Rattle.hex.specs.Hex.{encode_lower}
 use Rattle.mc_life.proofs.Reading.{digits_read, no_error}
 use Rattle.mc_life.proofs.event.decode.Goals as goal

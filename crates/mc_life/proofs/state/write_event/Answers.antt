@@ -1,5 +1,4 @@
-use Rattle.std.proofs.Common.{option_map, [], ◌∷◌, ◌++◌}
-use Rattle.std.proofs.lemmas.Result.{err_from_is_err_and}
+use Rattle.std.proofs.{Common.{option_map, [], ◌∷◌, ◌++◌}, lemmas.Result.{err_from_is_err_and}}
 use Rattle.mc_output.specs.facts.Results.{on_err, on_ok}
 use Rattle.mc_boot.specs.Outcome.{shown}
 use Rattle.mc_life.specs.Replay.{stated, outcome_text, state_text}

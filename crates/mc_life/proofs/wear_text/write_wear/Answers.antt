@@ -1,6 +1,4 @@
-use Rattle.std.proofs.Common.{codes, subst}
-use Rattle.std.proofs.KnownBytes.{Appends-trans}
-use Rattle.std.proofs.lemmas.Result.{err_from_is_err_and}
+use Rattle.std.proofs.{Common.{codes, subst}, KnownBytes.{Appends-trans}, lemmas.Result.{err_from_is_err_and}}
 use Rattle.mc_output.specs.facts.Results.{on_err, on_ok}
 use Rattle.mc_life.specs.Device.{IsMost, Most, slot_wear}
 use Rattle.mc_life.proofs.Lines.{first_of_two, last_of_two}

@@ -1,5 +1,4 @@
-use Rattle.std.proofs.Common.{◌∙◌}
-use Rattle.std.proofs.lemmas.Result.{err_from_is_err_and}
+use Rattle.std.proofs.{Common.{◌∙◌}, lemmas.Result.{err_from_is_err_and}}
 use Rattle.mc_flash.specs.facts.Done.{does_keep}
 use Rattle.mc_life.proofs.Going.{both_left, first_fails, magic_keeps, magic_left, second_fails}
 use Rattle.mc_life.proofs.work.ask.Goals as goal

@@ -1,7 +1,6 @@
 use Rattle.std.proofs.Common.{List, ℕ, length, ap, ◌%◌, ◌∙◌}
 use Rattle.mc_flash.specs.Geometry.{Geometry}
-use Rattle.mc_trailer.specs.Trailer.{one_unit}
-use Rattle.mc_trailer.specs.facts.Places.{one_unit_whole}
+use Rattle.mc_trailer.specs.{Trailer.{one_unit}, facts.Places.{one_unit_whole}}
 use Rattle.mc_life.proofs.work.write_image_ok.Goals as goal
 
 pub write_field-requires-clause-whole : goal.write_field-requires-clause-whole

@@ -1,6 +1,5 @@
 use Rattle.std.specs.Prelude.{Err}
-use Rattle.std.proofs.Common.{ap, ◌∙◌}
-use Rattle.std.proofs.lemmas.Result.{err_from_is_err_and}
+use Rattle.std.proofs.{Common.{ap, ◌∙◌}, lemmas.Result.{err_from_is_err_and}}
 use Rattle.clap.specs.Matches.{found_of}
 use Rattle.mc_flash.specs.Geometry.{refusal_of}
 use Rattle.mc_options.proofs.GivenOptions.{refused_source, not_given, judges_err, judges_ok}

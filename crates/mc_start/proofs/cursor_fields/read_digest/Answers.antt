@@ -1,6 +1,5 @@
 use Rattle.std.specs.Prelude.{◌≡◌, ℕ, List, Some, true, false, not}
-use Rattle.std.proofs.Common.{refl, sym, ap, ◌∙◌}
-use Rattle.std.proofs.lemmas.Slice.Eq.{bytes_eq-Decides}
+use Rattle.std.proofs.{Common.{refl, sym, ap, ◌∙◌}, lemmas.Slice.Eq.{bytes_eq-Decides}}
 use Rattle.hex.specs.Hex.{encode_lower}
 use Rattle.mc_start.proofs.Cursors.{apart, no_error, digest_reads}
 use Rattle.mc_start.proofs.cursor_fields.read_digest.Goals as goal

@@ -1,6 +1,5 @@
 use Rattle.std.proofs.Common.{}
-use Rattle.mc_boot.specs.Boot.{progress}
-use Rattle.mc_boot.specs.Plan.{plain}
+use Rattle.mc_boot.specs.{Boot.{progress}, Plan.{plain}}
 use Rattle.mc_start.proofs.Starts.{allows, left_here}
 use Rattle.mc_start.proofs.slots.booted.Goals as goal
 

@@ -1,10 +1,7 @@
 use Rattle.std.specs.Prelude.{◌≡◌, ◌<◌, Some, is_some, length, slice_get, ℕ}
 use Rattle.std.proofs.Common.{ap, sym, subst, ◌∙◌}
-use Rattle.mc_boot.specs.Boot.{progress, to_come}
-use Rattle.mc_boot.specs.Outcome.{ops_of, outcome_of}
-use Rattle.mc_boot.specs.Plan.{again}
+use Rattle.mc_boot.specs.{Boot.{progress, to_come}, Outcome.{ops_of, outcome_of}, Plan.{again}, facts.Steps.{none_first}}
 use Rattle.mc_flash.specs.Flash.{Content}
-use Rattle.mc_boot.specs.facts.Steps.{none_first}
 use Rattle.mc_explore.specs.inner.OneRound.{at_cut}
 use Rattle.mc_trace.specs.inner.Rows.{boot_at}
 use Rattle.mc_trace.proofs.BootRows.{one_to_come, op_here}

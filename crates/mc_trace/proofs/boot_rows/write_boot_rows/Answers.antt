@@ -1,18 +1,11 @@
-use Rattle.std.specs.Prelude.{◌≡◌, ◌+◌, ◌<◌, ◌≤◌, IfSome, ◌∷◌, [], ℕ, length, suc, refl, None, Option, Some}
-use Rattle.std.proofs.Common.{arith, ap, sym, subst, ◌∙◌}
-use Rattle.std.proofs.lemmas.Result.{err_from_is_err_and}
+use Rattle.std.specs.{Prelude.{◌≡◌, ◌+◌, ◌<◌, ◌≤◌, IfSome, ◌∷◌, [], ℕ, length, suc, refl, None, Option, Some}, Io.KnownBytes.{Appends}}
+use Rattle.std.proofs.{Common.{arith, ap, sym, subst, ◌∙◌}, lemmas.Result.{err_from_is_err_and}, lemmas.List.{length-append}}
 use Rattle.mc_boot.specs.Outcome.{ops_of}
-use Rattle.mc_explore.specs.facts.Children.{HasCome, IsAtChild, can_pass, come_on, reached, width_here}
-use Rattle.mc_output.specs.facts.Prefixes.{out_stops}
-use Rattle.mc_flash.specs.Geometry.{Geometry}
-use Rattle.mc_output.specs.Text.{AppendsPrefix}
-use Rattle.std.specs.Io.KnownBytes.{Appends}
-use Rattle.mc_trace.specs.Picture.{grouped_text, up_to_cut}
-use Rattle.mc_trace.specs.inner.Rows.{boot_at, length_to, model_of, row_shown}
-use Rattle.mc_explore.specs.declared.one_round.OneRound.{OneRound}
-use Rattle.mc_flash.specs.Usage.{Seen}
+use Rattle.mc_explore.specs.{facts.Children.{HasCome, IsAtChild, can_pass, come_on, reached, width_here}, declared.one_round.OneRound.{OneRound}}
+use Rattle.mc_output.specs.{facts.Prefixes.{out_stops}, Text.{AppendsPrefix}}
+use Rattle.mc_flash.specs.{Geometry.{Geometry}, Usage.{Seen}}
+use Rattle.mc_trace.specs.{Picture.{grouped_text, up_to_cut}, inner.Rows.{boot_at, length_to, model_of, row_shown}}
 use Rattle.mc_walk.specs.Walks.{Walked}
-use Rattle.std.proofs.lemmas.List.{length-append}
 use Rattle.mc_trace.proofs.BootRows.{end_begun, end_out, long, number_is, row_begun, row_is, row_out, rows_begun, within}
 use Rattle.mc_trace.proofs.boot_rows.write_boot_rows.Given.{Over}
 use Rattle.mc_trace.proofs.boot_rows.write_boot_rows.Goals as goal

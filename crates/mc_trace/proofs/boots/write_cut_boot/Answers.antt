@@ -1,5 +1,4 @@
-use Rattle.std.proofs.Common.{sym, ◌∙◌}
-use Rattle.std.proofs.lemmas.Result.{err_from_is_err_and}
+use Rattle.std.proofs.{Common.{sym, ◌∙◌}, lemmas.Result.{err_from_is_err_and}}
 use Rattle.mc_boot.specs.Boot.{progress}
 use Rattle.mc_trace.proofs.CutBoots.{head_begun, cut_begun, cut_out, cut_out_none, cut_line_begun, next_there, left_there}
 use Rattle.mc_trace.proofs.boots.write_cut_boot.Goals as goal

@@ -1,8 +1,7 @@
 use Rattle.std.proofs.lemmas.Result.{err_from_is_err_and}
 use Rattle.mc_boot.specs.Boot.{progress}
-use Rattle.mc_trace.proofs.CutBoots.{head_begun, last_begun, last_out}
+use Rattle.mc_trace.proofs.{CutBoots.{head_begun, last_begun, last_out}, OperationLines.{writes_ok, writes_err}}
 use Rattle.mc_output.specs.facts.Results.{on_err, on_ok}
-use Rattle.mc_trace.proofs.OperationLines.{writes_ok, writes_err}
 use Rattle.mc_trace.proofs.boots.write_last_boot.Goals as goal
 use Rattle.mc_boot.specs.Plan.{powered}
 

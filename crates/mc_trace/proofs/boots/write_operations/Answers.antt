@@ -1,9 +1,7 @@
 use Rattle.std.specs.Prelude.{Err}
-use Rattle.std.proofs.Common.{rules, ◌<◌, sym, ap, ◌∙◌, inl, IfSome}
-use Rattle.std.proofs.lemmas.Result.{err_from_is_err_and}
+use Rattle.std.proofs.{Common.{rules, ◌<◌, sym, ap, ◌∙◌, inl, IfSome}, lemmas.Result.{err_from_is_err_and}}
 use Rattle.mc_output.specs.facts.Prefixes.{out_all, out_stops}
-use Rattle.mc_boot.specs.Boot.{progress, to_come}
-use Rattle.mc_boot.specs.facts.Steps.{counts_on_both, step_counts, step_spends}
+use Rattle.mc_boot.specs.{Boot.{progress, to_come}, facts.Steps.{counts_on_both, step_counts, step_spends}}
 use Rattle.mc_trace.proofs.OperationLines.{counted_up_to, none_to_come, happened, refused, over, line_out, line_begun, one_more, none_more, goes_up_to}
 use Rattle.mc_trace.proofs.boots.write_operations.Given.{Over}
 use Rattle.mc_trace.proofs.boots.write_operations.Goals as goal

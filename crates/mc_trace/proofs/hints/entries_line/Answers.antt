@@ -1,5 +1,4 @@
-use Rattle.std.proofs.Common.{◌≡◌, ◌==◌, ℕ, false, arith}
-use Rattle.std.proofs.lemmas.Bool.Decides.{nat_tests}
+use Rattle.std.proofs.{Common.{◌≡◌, ◌==◌, ℕ, false, arith}, lemmas.Bool.Decides.{nat_tests}}
 use Rattle.mc_trace.specs.Hints.{entries_text}
 use Rattle.mc_trace.proofs.hints.entries_line.Goals as goal
 

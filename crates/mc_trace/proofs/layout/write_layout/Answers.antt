@@ -1,9 +1,7 @@
 use Rattle.std.specs.Prelude.{◌++◌}
-use Rattle.std.proofs.KnownBytes.{Appends-trans}
-use Rattle.std.proofs.lemmas.Result.{err_from_is_err_and}
+use Rattle.std.proofs.{KnownBytes.{Appends-trans}, lemmas.Result.{err_from_is_err_and}}
 use Rattle.mc_trace.specs.LayoutText.{boots_text, parts_text, sizes_text}
-use Rattle.mc_trace.proofs.Longest.{longest}
-use Rattle.mc_trace.proofs.Writing.{first_begun, then_begun}
+use Rattle.mc_trace.proofs.{Longest.{longest}, Writing.{first_begun, then_begun}}
 use Rattle.mc_trace.proofs.layout.write_layout.Goals as goal
 
 pub returns-in_err-write_line-clause-prefix : goal.returns-in_err-write_line-clause-prefix

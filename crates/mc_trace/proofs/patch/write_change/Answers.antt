@@ -1,5 +1,4 @@
-use Rattle.std.proofs.Common.{◌≡◌, ◌++◌, ◌∷◌, [], List, ℕ, append_assoc, refl}
-use Rattle.std.proofs.lemmas.Result.{err_from_is_err_and}
+use Rattle.std.proofs.{Common.{◌≡◌, ◌++◌, ◌∷◌, [], List, ℕ, append_assoc, refl}, lemmas.Result.{err_from_is_err_and}}
 use Rattle.mc_trace.proofs.patch.write_change.Goals as goal
 
 -- A space, between a beginning and a source.

@@ -1,7 +1,5 @@
 use Rattle.std.specs.Prelude.{drop, take}
-use Rattle.std.proofs.Common.{sym, subst, ◌∙◌}
-use Rattle.std.proofs.lemmas.Bool.{eqb-true}
-use Rattle.std.proofs.lemmas.Result.{err_from_is_err_and}
+use Rattle.std.proofs.{Common.{sym, subst, ◌∙◌}, lemmas.Bool.{eqb-true}, lemmas.Result.{err_from_is_err_and}}
 use Rattle.hex.specs.Hex.{encode_lower}
 use Rattle.mc_output.specs.facts.Prefixes.{IsOut, out_all, out_more, out_prefix}
 use Rattle.mc_trace.proofs.PatchLines.{digits_next, digits_none}

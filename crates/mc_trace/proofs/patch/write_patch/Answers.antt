@@ -1,10 +1,7 @@
-use Rattle.std.proofs.Common.{refl}
-use Rattle.std.proofs.lemmas.Result.{err_from_is_err_and}
+use Rattle.std.proofs.{Common.{refl}, lemmas.Result.{err_from_is_err_and}}
 use Rattle.mc_flash.specs.declared.op.Slot.TheVariants.{Primary, Secondary}
 use Rattle.mc_trace.specs.Patch.{lines_text, slot_changes}
-use Rattle.mc_trace.proofs.PatchLines.{two_slots}
-use Rattle.mc_trace.proofs.Patched.{patch_makes, sized}
-use Rattle.mc_trace.proofs.Writing.{first_begun, writes_then}
+use Rattle.mc_trace.proofs.{PatchLines.{two_slots}, Patched.{patch_makes, sized}, Writing.{first_begun, writes_then}}
 use Rattle.mc_trace.proofs.patch.write_patch.Goals as goal
 
 pub returns-in_err-write_slot-clause-written : goal.returns-in_err-write_slot-clause-written

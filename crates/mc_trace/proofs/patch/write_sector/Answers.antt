@@ -1,5 +1,4 @@
-use Rattle.std.proofs.Common.{◌≡◌, false, true}
-use Rattle.std.proofs.KnownBytes.{Appends-nil}
+use Rattle.std.proofs.{Common.{◌≡◌, false, true}, KnownBytes.{Appends-nil}}
 use Rattle.mc_trace.specs.Sectors.{sector_of}
 use Rattle.mc_trace.proofs.PatchLines.{as_was, no_line, one_line}
 use Rattle.mc_trace.proofs.patch.write_sector.Goals as goal

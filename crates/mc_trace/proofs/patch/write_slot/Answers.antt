@@ -1,10 +1,7 @@
-use Rattle.std.proofs.Common.{◌+◌, ◌<◌, arith, ap, subst}
-use Rattle.std.proofs.lemmas.Result.{err_from_is_err_and}
-use Rattle.mc_flash.specs.Flash.{sectors_of}
-use Rattle.mc_flash.specs.Geometry.{Geometry}
+use Rattle.std.proofs.{Common.{◌+◌, ◌<◌, arith, ap, subst}, lemmas.Result.{err_from_is_err_and}}
+use Rattle.mc_flash.specs.{Flash.{sectors_of}, Geometry.{Geometry}}
 use Rattle.mc_output.specs.facts.Prefixes.{IsOut, out_all, out_more, out_prefix}
-use Rattle.mc_trace.specs.Patch.{change_of, lines_text, slot_changes}
-use Rattle.mc_trace.specs.Sectors.{sector_of}
+use Rattle.mc_trace.specs.{Patch.{change_of, lines_text, slot_changes}, Sectors.{sector_of}}
 use Rattle.mc_trace.proofs.PatchLines.{left, left_next}
 use Rattle.mc_trace.proofs.patch.write_slot.Goals as goal
 

@@ -1,10 +1,7 @@
 use Rattle.std.specs.Prelude.{List, ℕ, ◌++◌}
-use Rattle.std.proofs.KnownBytes.{Appends-trans}
-use Rattle.std.proofs.lemmas.Result.{err_from_is_err_and}
-use Rattle.mc_explore.specs.Census.{census_text}
-use Rattle.mc_explore.specs.Rows.{subject}
-use Rattle.mc_trace.specs.Picture.{intro_text}
-use Rattle.mc_trace.specs.declared.page.TheConstants.{HEAD, LEGEND}
+use Rattle.std.proofs.{KnownBytes.{Appends-trans}, lemmas.Result.{err_from_is_err_and}}
+use Rattle.mc_explore.specs.{Census.{census_text}, Rows.{subject}}
+use Rattle.mc_trace.specs.{Picture.{intro_text}, declared.page.TheConstants.{HEAD, LEGEND}}
 use Rattle.mc_trace.proofs.Writing.{first_begun, then_begun}
 use Rattle.mc_trace.proofs.picture.write_opening.Goals as goal
 

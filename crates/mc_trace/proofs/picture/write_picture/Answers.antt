@@ -1,7 +1,5 @@
-use Rattle.std.proofs.Common.{ap, sym, ◌∙◌}
-use Rattle.std.proofs.lemmas.Bool.{false≢true}
-use Rattle.mc_flash.specs.Geometry.{Geometry}
-use Rattle.mc_flash.specs.Usage.{Limits}
+use Rattle.std.proofs.{Common.{ap, sym, ◌∙◌}, lemmas.Bool.{false≢true}}
+use Rattle.mc_flash.specs.{Geometry.{Geometry}, Usage.{Limits}}
 use Rattle.mc_start.specs.Start.{begun}
 use Rattle.mc_trace.specs.Picture.{look_for}
 use Rattle.mc_trace.proofs.Drawn.{drawn, begun as begun_page, occurs, refused}

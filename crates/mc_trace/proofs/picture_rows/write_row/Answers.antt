@@ -1,9 +1,7 @@
 use Rattle.std.specs.Prelude.{List, ℕ, ◌++◌, codes}
-use Rattle.std.proofs.lemmas.Result.{err_from_is_err_and}
-use Rattle.std.proofs.KnownBytes.{Appends-trans}
+use Rattle.std.proofs.{lemmas.Result.{err_from_is_err_and}, KnownBytes.{Appends-trans}}
 use Rattle.mc_boot.specs.Outcome.{shown}
-use Rattle.mc_trace.specs.Picture.{flash_cells, outcome_cell, row_begin, target_of}
-use Rattle.mc_trace.specs.Trace.{operation_text}
+use Rattle.mc_trace.specs.{Picture.{flash_cells, outcome_cell, row_begin, target_of}, Trace.{operation_text}}
 use Rattle.mc_trace.proofs.Writing.{first_begun, then_begun}
 use Rattle.mc_trace.proofs.picture_rows.write_row.Goals as goal
 

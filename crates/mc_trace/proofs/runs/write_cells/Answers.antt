@@ -1,10 +1,6 @@
-use Rattle.std.proofs.Common.{◌<◌, ◌≤◌, arith, ap, ◌∙◌}
-use Rattle.std.proofs.lemmas.Result.{err_from_is_err_and}
-use Rattle.mc_flash.specs.Flash.{sectors_of}
-use Rattle.mc_flash.specs.Geometry.{Geometry}
-use Rattle.mc_flash.specs.facts.Layouts.{trailer_leaves_one}
-use Rattle.mc_trace.specs.Picture.{run_of}
-use Rattle.mc_trace.specs.declared.runs.Run.{Run}
+use Rattle.std.proofs.{Common.{◌<◌, ◌≤◌, arith, ap, ◌∙◌}, lemmas.Result.{err_from_is_err_and}}
+use Rattle.mc_flash.specs.{Flash.{sectors_of}, Geometry.{Geometry}, facts.Layouts.{trailer_leaves_one}}
+use Rattle.mc_trace.specs.{Picture.{run_of}, declared.runs.Run.{Run}}
 use Rattle.mc_trace.proofs.SlotCells.{begun, cell_begun, cell_out, last_by, next_count}
 use Rattle.mc_trace.proofs.runs.write_cells.Goals as goal
 

@@ -1,20 +1,11 @@
-use Rattle.std.specs.Prelude.{List, None, Some, [], length, ℕ, ◌+◌, ◌∷◌, ◌≤◌}
-use Rattle.std.specs.Io.KnownBytes.{Appends}
-use Rattle.std.proofs.Common.{ap, arith, subst, sym, ◌∙◌}
-use Rattle.std.proofs.KnownBytes.{Appends-trans}
-use Rattle.std.proofs.lemmas.List.{length-append, nil_from_length}
+use Rattle.std.specs.{Prelude.{List, None, Some, [], length, ℕ, ◌+◌, ◌∷◌, ◌≤◌}, Io.KnownBytes.{Appends}}
+use Rattle.std.proofs.{Common.{ap, arith, subst, sym, ◌∙◌}, KnownBytes.{Appends-trans}, lemmas.List.{length-append, nil_from_length}}
 use Rattle.std.proofs.lemmas.Result.{err_from_is_err_and}
-use Rattle.mc_boot.specs.Outcome.{shown}
-use Rattle.mc_boot.specs.Plan.{PowerOn, again}
-use Rattle.mc_explore.specs.Schedules.{CanOccur}
-use Rattle.mc_explore.specs.facts.Children.{listed_there}
-use Rattle.mc_explore.specs.inner.OneRound.{at_cut}
+use Rattle.mc_boot.specs.{Outcome.{shown}, Plan.{PowerOn, again}}
+use Rattle.mc_explore.specs.{Schedules.{CanOccur}, facts.Children.{listed_there}, inner.OneRound.{at_cut}}
 use Rattle.mc_output.specs.Text.{AppendsPrefix}
-use Rattle.mc_trace.specs.Picture.{boot_section, end_text, sections_text}
-use Rattle.mc_trace.specs.inner.Boots.{WritesText}
-use Rattle.mc_trace.specs.inner.Rows.{IsReady, boot_at, model_of}
-use Rattle.mc_trace.proofs.Headed.{child_boot, first_occurs, last_is, next_is}
-use Rattle.mc_trace.proofs.Writing.{first_begun, then_begun, writes_then}
+use Rattle.mc_trace.specs.{Picture.{boot_section, end_text, sections_text}, inner.Boots.{WritesText}, inner.Rows.{IsReady, boot_at, model_of}}
+use Rattle.mc_trace.proofs.{Headed.{child_boot, first_occurs, last_is, next_is}, Writing.{first_begun, then_begun, writes_then}}
 use Rattle.mc_trace.proofs.sections.+write_sections.Goals as goal
 
 pub returns-in_err-write_section-clause-written : goal.returns-in_err-write_section-clause-written

@@ -1,14 +1,9 @@
-use Rattle.std.specs.Prelude.{List, codes, ℕ, ◌++◌}
-use Rattle.std.specs.Io.KnownBytes.{Appends}
-use Rattle.std.proofs.Common.{subst, sym}
-use Rattle.std.proofs.KnownBytes.{Appends-trans}
-use Rattle.std.proofs.lemmas.Result.{err_from_is_err_and}
+use Rattle.std.specs.{Prelude.{List, codes, ℕ, ◌++◌}, Io.KnownBytes.{Appends}}
+use Rattle.std.proofs.{Common.{subst, sym}, KnownBytes.{Appends-trans}, lemmas.Result.{err_from_is_err_and}}
 use Rattle.mc_boot.specs.Outcome.{shown}
 use Rattle.mc_output.specs.Text.{AppendsPrefix}
-use Rattle.mc_trace.specs.Picture.{boot_rows, heading_text}
-use Rattle.mc_trace.specs.inner.Rows.{boot_at}
-use Rattle.mc_trace.proofs.Headed.{section_is}
-use Rattle.mc_trace.proofs.Writing.{first_begun, then_begun}
+use Rattle.mc_trace.specs.{Picture.{boot_rows, heading_text}, inner.Rows.{boot_at}}
+use Rattle.mc_trace.proofs.{Headed.{section_is}, Writing.{first_begun, then_begun}}
 use Rattle.mc_trace.proofs.sections.write_section.Goals as goal
 
 pub returns-in_err-write_line-clause-written : goal.returns-in_err-write_line-clause-written

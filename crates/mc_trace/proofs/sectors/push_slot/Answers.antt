@@ -1,6 +1,5 @@
 use Rattle.std.proofs.Common.{arith, ap, string_bytes}
-use Rattle.mc_flash.specs.Flash.{sectors_of, slot_text}
-use Rattle.mc_flash.specs.Geometry.{Geometry}
+use Rattle.mc_flash.specs.{Flash.{sectors_of, slot_text}, Geometry.{Geometry}}
 use Rattle.mc_trace.specs.Sectors.{sector_words}
 use Rattle.mc_trace.proofs.Pictured.{ended, grew}
 use Rattle.mc_trace.proofs.sectors.push_slot.Goals as goal

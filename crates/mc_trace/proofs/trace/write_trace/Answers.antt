@@ -1,6 +1,5 @@
-use Rattle.std.proofs.Common.{rules, ◌≡◌, ◌+◌, length, List, ℕ, Some, refl, sym, ap, subst, ◌∙◌, arith}
+use Rattle.std.proofs.{Common.{rules, ◌≡◌, ◌+◌, length, List, ℕ, Some, refl, sym, ap, subst, ◌∙◌, arith}, lemmas.Result.{err_from_is_err_and}}
 use Rattle.mc_flash.specs.Usage.{Counts, IsWithin, Limits, Usage, limits_for, no_counts}
-use Rattle.std.proofs.lemmas.Result.{err_from_is_err_and}
 use Rattle.mc_boot.specs.Outcome.{shown, after}
 use Rattle.mc_start.specs.Start.{begun}
 use Rattle.std.specs.Io.KnownBytes.{Appends}

@@ -1,5 +1,4 @@
-use Rattle.std.proofs.Common.{ℕ, ◌*◌, ◌≤◌, arith, sym, ◌∙◌}
-use Rattle.std.proofs.Math.Nat.{mul-le-mul_right}
+use Rattle.std.proofs.{Common.{ℕ, ◌*◌, ◌≤◌, arith, sym, ◌∙◌}, Math.Nat.{mul-le-mul_right}}
 use Rattle.mc_flash.specs.Geometry.{greatest_sectors}
 use Rattle.mc_trace.proofs.SwapWork.{begun_erasing_count, erase_count, whole}
 use Rattle.mc_trace.proofs.wear.swap_erases.Goals as goal

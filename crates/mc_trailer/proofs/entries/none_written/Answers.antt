@@ -1,9 +1,6 @@
 use Rattle.std.proofs.Common.{◌≡◌, ◌*◌, length, true, sym, ap, subst, ◌∙◌}
-use Rattle.mc_flash.specs.Flash.{is_blank}
-use Rattle.mc_flash.specs.Geometry.{Geometry, IsLayout}
-use Rattle.mc_flash.specs.declared.op.Slot.TheVariants.{Primary}
-use Rattle.mc_trailer.specs.Trailer.{bytes_at, entry_place}
-use Rattle.mc_trailer.specs.facts.Entries.{group_blank}
+use Rattle.mc_flash.specs.{Flash.{is_blank}, Geometry.{Geometry, IsLayout}, declared.op.Slot.TheVariants.{Primary}}
+use Rattle.mc_trailer.specs.{Trailer.{bytes_at, entry_place}, facts.Entries.{group_blank}}
 use Rattle.mc_trailer.proofs.entries.none_written.Goals as goal
 
 pub returns : goal.returns

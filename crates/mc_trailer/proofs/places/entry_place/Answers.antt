@@ -1,9 +1,5 @@
-use Rattle.std.proofs.Common.{◌≡◌, ℕ, ◌+◌, ◌-◌, ◌*◌, ◌<◌, ◌≤◌, Fits, w32, arith}
-use Rattle.std.proofs.Math.Nat.{mul-le-mul_right}
-use Rattle.mc_flash.specs.Flash.{size_of}
-use Rattle.mc_flash.specs.Geometry.{Geometry, IsLayout}
-use Rattle.mc_flash.specs.declared.op.Slot.TheVariants.{Primary}
-use Rattle.mc_flash.specs.facts.Layouts.{trailer_inside}
+use Rattle.std.proofs.{Common.{◌≡◌, ℕ, ◌+◌, ◌-◌, ◌*◌, ◌<◌, ◌≤◌, Fits, w32, arith}, Math.Nat.{mul-le-mul_right}}
+use Rattle.mc_flash.specs.{Flash.{size_of}, Geometry.{Geometry, IsLayout}, declared.op.Slot.TheVariants.{Primary}, facts.Layouts.{trailer_inside}}
 use Rattle.mc_trailer.specs.facts.Places.{entry_aligned, entry_ends}
 use Rattle.mc_trailer.proofs.places.entry_place.Goals as goal
 

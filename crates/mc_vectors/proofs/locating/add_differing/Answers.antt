@@ -1,6 +1,5 @@
 use Rattle.std.proofs.Common.{sym, ◌∙◌}
-use Rattle.mc_vectors.proofs.Differing.{listed_more, no_more}
-use Rattle.mc_vectors.proofs.locating.add_differing.Goals.{then-is_other+in_ok-push, else-is_other}
+use Rattle.mc_vectors.proofs.{Differing.{listed_more, no_more}, locating.add_differing.Goals.{then-is_other+in_ok-push, else-is_other}}
 use Rattle.mc_vectors.proofs.locating.add_differing.Goals as goal
 
 pub loop-number-preserved : goal.loop-number-preserved

@@ -1,8 +1,7 @@
 use Rattle.std.specs.Prelude.{Contains, is_some}
 use Rattle.std.proofs.Common.{List, ap, arith, subst}
 use Rattle.mc_vectors.specs.declared.case.Case.{Case}
-use Rattle.mc_vectors.proofs.Differing.{same_content}
-use Rattle.mc_vectors.proofs.Nearest.{nearest_of_all}
+use Rattle.mc_vectors.proofs.{Differing.{same_content}, Nearest.{nearest_of_all}}
 use Rattle.mc_vectors.proofs.locating.locate.Goals as goal
 
 pub nearest-requires-clause-occur : goal.nearest-requires-clause-occur

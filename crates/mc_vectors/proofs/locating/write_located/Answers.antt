@@ -1,7 +1,5 @@
-use Rattle.std.proofs.Common.{ap, arith, length, refl, List}
-use Rattle.std.proofs.lemmas.Result.{err_from_is_err_and}
-use Rattle.mc_vectors.specs.Locating.{head_text, located_text, sector_line}
-use Rattle.mc_vectors.specs.declared.locating.SectorId.{SectorId}
+use Rattle.std.proofs.{Common.{ap, arith, length, refl, List}, lemmas.Result.{err_from_is_err_and}}
+use Rattle.mc_vectors.specs.{Locating.{head_text, located_text, sector_line}, declared.locating.SectorId.{SectorId}}
 use Rattle.mc_vectors.proofs.Tabled.{first_begun, left, line_begun, line_out}
 use Rattle.mc_vectors.proofs.locating.write_located.Goals as goal
 

@@ -2,8 +2,7 @@ use Rattle.std.specs.Prelude.{refl, true}
 use Rattle.std.proofs.Common.{subst, ◌∙◌}
 use Rattle.mc_boot.specs.Plan.{PowerOn}
 use Rattle.mc_start.specs.Start.{begun}
-use Rattle.mc_vectors.specs.declared.case.Case.{Case}
-use Rattle.mc_vectors.specs.inner.Searching.{GoesOnAt}
+use Rattle.mc_vectors.specs.{declared.case.Case.{Case}, inner.Searching.{GoesOnAt}}
 use Rattle.mc_vectors.proofs.Visited.{ends_with, joined, joined_case, own_here, stands_at}
 use Rattle.mc_vectors.proofs.search.case_here.Goals as goal
 

@@ -1,12 +1,8 @@
 use Rattle.std.specs.Prelude.{Contains, List, get_or, is_some, true, ℕ, ◌+◌, ◌<◌, ◌≡◌, ◌≤◌, ◌⊎◌}
 use Rattle.std.proofs.Common.{ap, arith, inl, inr, length, subst, sym, ◌∙◌}
 use Rattle.mc_start.specs.Start.{begun}
-use Rattle.mc_vectors.specs.Cases.{AnyCuts, AreCases, AtMost}
-use Rattle.mc_vectors.specs.declared.case.Case.{Case}
-use Rattle.mc_vectors.specs.declared.search.Search.{Search}
-use Rattle.mc_vectors.specs.inner.Searching.{IsDoneAt}
-use Rattle.mc_vectors.proofs.Covered.{are_all, are_cases}
-use Rattle.mc_vectors.proofs.Extended.{begin as begin_case, passed}
+use Rattle.mc_vectors.specs.{Cases.{AnyCuts, AreCases, AtMost}, declared.case.Case.{Case}, declared.search.Search.{Search}, inner.Searching.{IsDoneAt}}
+use Rattle.mc_vectors.proofs.{Covered.{are_all, are_cases}, Extended.{begin as begin_case, passed}}
 use Rattle.mc_vectors.proofs.search.find_cases.Goals.{After-case-then-cuts-from-1, then-not-case+then-cuts-from+in_ok-expand, else-not-case, else-not-case-via-then-not-case+else-cuts-from, else-not-case-via-else-not-case}
 use Rattle.mc_vectors.proofs.search.find_cases.Goals as goal
 

@@ -1,5 +1,4 @@
-use Rattle.std.proofs.Common.{arith}
-use Rattle.std.proofs.lemmas.Result.{err_from_is_err_and}
+use Rattle.std.proofs.{Common.{arith}, lemmas.Result.{err_from_is_err_and}}
 use Rattle.mc_vectors.specs.Table.{case_text, cases_text, names_text}
 use Rattle.mc_vectors.proofs.Tabled.{first_begun, left, line_begun, line_out, none_left}
 use Rattle.mc_vectors.proofs.table.write_cases.Goals as goal

@@ -1,7 +1,5 @@
-use Rattle.std.proofs.Common.{◌≡◌, ◌+◌, ◌*◌, ap, subst, arith}
-use Rattle.std.proofs.lemmas.Result.{err_from_is_err_and}
-use Rattle.mc_flash.specs.Usage.{Limits, Spent}
-use Rattle.mc_flash.specs.facts.Spends.{keeps_both, ran_out_later, spent_both, spent_more}
+use Rattle.std.proofs.{Common.{◌≡◌, ◌+◌, ◌*◌, ap, subst, arith}, lemmas.Result.{err_from_is_err_and}}
+use Rattle.mc_flash.specs.{Usage.{Limits, Spent}, facts.Spends.{keeps_both, ran_out_later, spent_both, spent_more}}
 use Rattle.mc_walk.specs.TreeModel.{IsAt}
 use Rattle.mc_walk.proofs.child_steps.go_to_child.Goals as goal
 

@@ -1,9 +1,7 @@
 use Rattle.std.proofs.Common.{sym, subst}
 use Rattle.mc_flash.specs.Usage.{HasRoom}
-use Rattle.mc_walk.specs.TreeModel.{owed_there}
-use Rattle.mc_walk.specs.Walks.{origin_of}
-use Rattle.mc_walk.proofs.Stacks.{child_here, entered_summary}
-use Rattle.mc_walk.proofs.Steps.{spends_marked}
+use Rattle.mc_walk.specs.{TreeModel.{owed_there}, Walks.{origin_of}}
+use Rattle.mc_walk.proofs.{Stacks.{child_here, entered_summary}, Steps.{spends_marked}}
 use Rattle.mc_walk.proofs.enter.enter.Goals as goal
 
 pub child-requires : goal.child-requires

@@ -1,13 +1,10 @@
 use Rattle.std.proofs.Common.{◌≡◌, ℕ, ◌+◌, ◌-◌, ◌<◌, ◌≤◌, List, [], ◌∷◌, ◌++◌, length, length-append, Result, Ok, Err, refl, sym, ap, subst, ◌∙◌, arith}
 use Rattle.std.proofs.lemmas.Result.{err_from_is_err_and}
-use Rattle.mc_flash.specs.Usage.{Seen, Marks, marked, HasRoom, Spent, Spends}
-use Rattle.mc_flash.specs.facts.Spends.{mark_spends, ran_out_later, spent_both, spent_marked, spent_more}
+use Rattle.mc_flash.specs.{Usage.{Seen, Marks, marked, HasRoom, Spent, Spends}, facts.Spends.{mark_spends, ran_out_later, spent_both, spent_marked, spent_more}}
 use Rattle.mc_flash.specs.declared.flash.FlashError.{FlashError}
 use Rattle.mc_flash.specs.declared.flash.FlashError.TheVariants as errors
-use Rattle.mc_walk.specs.TreeModel.{HasNext, owed_there}
-use Rattle.mc_walk.specs.Walks.{origin_of}
-use Rattle.mc_walk.proofs.Stacks.{child_here, entered_summary}
-use Rattle.mc_walk.proofs.Steps.{comes_on, frames_on, last_is, mark_on, next_on, ok_any, one_on, room_on}
+use Rattle.mc_walk.specs.{TreeModel.{HasNext, owed_there}, Walks.{origin_of}}
+use Rattle.mc_walk.proofs.{Stacks.{child_here, entered_summary}, Steps.{comes_on, frames_on, last_is, mark_on, next_on, ok_any, one_on, room_on}}
 use Rattle.mc_walk.proofs.enter.next_sibling.Goals as goal
 
 -- Where the last of a list stands.

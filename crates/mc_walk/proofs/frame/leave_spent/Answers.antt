@@ -1,6 +1,5 @@
 use Rattle.std.proofs.Common.{◌≡◌, ◌-◌, Some, length, slice_get, refl, sym, ◌∙◌, ap, arith}
-use Rattle.mc_walk.proofs.Stacks.{none_off, popped_off, is_left}
-use Rattle.mc_walk.proofs.frame.leave_spent.Given.{Over}
+use Rattle.mc_walk.proofs.{Stacks.{none_off, popped_off, is_left}, frame.leave_spent.Given.{Over}}
 use Rattle.mc_walk.proofs.frame.leave_spent.Goals as goal
 use Rattle.mc_walk.proofs.frame.leave_spent.Goals.{In-Some}
 

@@ -1,6 +1,5 @@
 use Rattle.mc_flash.specs.Flash.{IsSized}
-use Rattle.mc_boot.proofs.CourseJoins.{is_cold}
-use Rattle.mc_boot.proofs.boot.Boot.cold_among.Given.{Over}
+use Rattle.mc_boot.proofs.{CourseJoins.{is_cold}, boot.Boot.cold_among.Given.{Over}}
 use Rattle.mc_boot.proofs.boot.Boot.cold_among.Goals as goal
 
 sized : (g : Over) (c : goal.After-begin g) → IsSized (g.F.Flash.seen c.args.flash.now).geometry (g.F.Flash.seen c.args.flash.now).content

@@ -1,7 +1,6 @@
 use Rattle.std.specs.Prelude.{length}
 use Rattle.mc_flash.specs.Usage.{Allows}
-use Rattle.mc_boot.specs.Boot.{progress, to_come, CountsOn, left_of, GoesOn}
-use Rattle.mc_boot.specs.facts.Steps.{StepSpends}
+use Rattle.mc_boot.specs.{Boot.{progress, to_come, CountsOn, left_of, GoesOn}, facts.Steps.{StepSpends}}
 use Rattle.mc_boot.proofs.boot.Boot.finish.Given as goal
 
 abbrev pub invariant-steps : goal.invariant-steps

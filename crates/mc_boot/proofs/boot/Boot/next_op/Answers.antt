@@ -1,5 +1,4 @@
-use Rattle.mc_boot.proofs.Courses.{can_of}
-use Rattle.mc_boot.proofs.Sections.{few_at}
+use Rattle.mc_boot.proofs.{Courses.{can_of}, Sections.{few_at}}
 use Rattle.mc_boot.proofs.boot.Boot.next_op.Goals as goal
 
 pub returns-in-Some-clause-inside : goal.returns-in-Some-clause-inside

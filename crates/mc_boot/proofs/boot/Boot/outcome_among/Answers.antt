@@ -1,8 +1,6 @@
 use Rattle.std.proofs.Common.{sym, ap, ◌∙◌}
 use Rattle.std.specs.Prelude.{Some}
-use Rattle.mc_boot.specs.Boot.{progress}
-use Rattle.mc_boot.specs.Outcome.{Report}
-use Rattle.mc_boot.specs.facts.Run.{come_outcome}
+use Rattle.mc_boot.specs.{Boot.{progress}, Outcome.{Report}, facts.Run.{come_outcome}}
 use Rattle.mc_boot.proofs.boot.Boot.outcome_among.Goals as goal
 use Rattle.mc_boot.specs.Plan.{power_on}
 

@@ -1,6 +1,5 @@
 use Rattle.std.proofs.Common.{arith}
-use Rattle.mc_boot.proofs.Courses.{greatest_pieces}
-use Rattle.mc_boot.proofs.Plans.{none_of, resumed_begun}
+use Rattle.mc_boot.proofs.{Courses.{greatest_pieces}, Plans.{none_of, resumed_begun}}
 use Rattle.mc_boot.proofs.boot.Boot.resumed_swap.Goals as goal
 
 pub invariant_of-result : goal.invariant_of-result

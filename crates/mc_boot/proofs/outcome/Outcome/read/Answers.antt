@@ -1,7 +1,6 @@
 use Rattle.std.proofs.Common.{ap, ◌∙◌}
 use Rattle.mc_boot.specs.Boot.{Progress}
-use Rattle.mc_boot.proofs.Images.{images_read}
-use Rattle.mc_boot.proofs.Plans.{reported}
+use Rattle.mc_boot.proofs.{Images.{images_read}, Plans.{reported}}
 use Rattle.mc_boot.proofs.outcome.Outcome.read.Goals as goal
 use Rattle.mc_boot.specs.Plan.{powered}
 

@@ -1,5 +1,4 @@
-use Rattle.std.proofs.Common.{◌≡◌, ◌+◌, ◌-◌, ◌*◌, ◌/◌, ◌<◌, ℕ, sym, arith, ◌∙◌}
-use Rattle.std.proofs.Math.Nat.{div-lt_iff_lt-mul}
+use Rattle.std.proofs.{Common.{◌≡◌, ◌+◌, ◌-◌, ◌*◌, ◌/◌, ◌<◌, ℕ, sym, arith, ◌∙◌}, Math.Nat.{div-lt_iff_lt-mul}}
 use Rattle.mc_flash.specs.facts.Usage.{few_sectors}
 use Rattle.mc_boot.proofs.Sections.{get_erase, get_transfer}
 use Rattle.mc_boot.proofs.section.Section.op.Goals as goal

@@ -1,8 +1,5 @@
-use Rattle.std.proofs.Common.{ap, subst, arith, ℕ, List, length}
-use Rattle.std.proofs.lemmas.Result.{err_from_is_err_and}
-use Rattle.mc_campaign.specs.Campaigns.{IsInOrder}
-use Rattle.mc_campaign.specs.facts.Cuts.{last_ordered, ordered_push}
-use Rattle.mc_campaign.specs.facts.Room.{len_again}
+use Rattle.std.proofs.{Common.{ap, subst, arith, ℕ, List, length}, lemmas.Result.{err_from_is_err_and}}
+use Rattle.mc_campaign.specs.{Campaigns.{IsInOrder}, facts.Cuts.{last_ordered, ordered_push}, facts.Room.{len_again}}
 use Rattle.mc_campaign.proofs.Reading.{cut_is, summary_cut}
 use Rattle.mc_campaign.proofs.campaign.Campaign.add.Goals as goal
 

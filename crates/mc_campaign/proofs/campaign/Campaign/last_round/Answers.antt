@@ -1,5 +1,4 @@
-use Rattle.std.proofs.Common.{◌≡◌, ◌+◌, ◌-◌, ◌++◌, ℕ, [], ◌∷◌, take, get_or, sym, ap, ◌∙◌, arith}
-use Rattle.std.proofs.lemmas.List.{take_more}
+use Rattle.std.proofs.{Common.{◌≡◌, ◌+◌, ◌-◌, ◌++◌, ℕ, [], ◌∷◌, take, get_or, sym, ap, ◌∙◌, arith}, lemmas.List.{take_more}}
 use Rattle.mc_campaign.specs.facts.Cuts.{last_pushed, last_round}
 use Rattle.mc_campaign.proofs.campaign.Campaign.last_round.Goals as goal
 

@@ -1,5 +1,4 @@
-use Rattle.std.proofs.Common.{arith}
-use Rattle.std.proofs.lemmas.List.{length-set, take_more_set}
+use Rattle.std.proofs.{Common.{arith}, lemmas.List.{length-set, take_more_set}}
 use Rattle.mc_campaign.specs.facts.Room.{len_again}
 use Rattle.mc_campaign.proofs.Reading.{blanks_beyond}
 use Rattle.mc_campaign.proofs.campaign.Campaign.push.Goals as goal

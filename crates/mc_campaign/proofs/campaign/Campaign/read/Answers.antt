@@ -1,8 +1,5 @@
-use Rattle.std.proofs.Common.{rules, arith}
-use Rattle.std.proofs.lemmas.Result.{err_from_is_err_and}
-use Rattle.std.proofs.lemmas.Slice.Eq.{bytes_eq-Decides}
-use Rattle.mc_output.specs.facts.Reading.{dash, not_next, not_last, left_next, text_next, text_last, all_read, added_valid}
-use Rattle.mc_output.specs.facts.Parting.{parted, one_piece}
+use Rattle.std.proofs.{Common.{rules, arith}, lemmas.Result.{err_from_is_err_and}, lemmas.Slice.Eq.{bytes_eq-Decides}}
+use Rattle.mc_output.specs.{facts.Reading.{dash, not_next, not_last, left_next, text_next, text_last, all_read, added_valid}, facts.Parting.{parted, one_piece}}
 use Rattle.mc_campaign.specs.Texts.{cut_text}
 use Rattle.mc_campaign.proofs.Reading.{spelling}
 use Rattle.mc_campaign.proofs.campaign.Campaign.read.Goals as goal

@@ -1,5 +1,4 @@
-use Rattle.std.specs.Prelude.{◌≡◌, ℕ, List, ◌++◌, length}
-use Rattle.std.specs.Str.{IsUtf8}
+use Rattle.std.specs.{Prelude.{◌≡◌, ℕ, List, ◌++◌, length}, Str.{IsUtf8}}
 use Rattle.mc_output.specs.facts.Reading.{beyond, IsLeft}
 use Rattle.mc_campaign.specs.Texts.{campaign_text, cut_text, IsCampaign}
 use Rattle.mc_campaign.proofs.campaign.Campaign.read.Given as goal

@@ -1,12 +1,9 @@
-use Rattle.std.proofs.Common.{Bool, List, [], ap, arith, false, length, subst, sym, true, ℕ, ◌++◌, ◌∙◌, ◌≡◌, ◌≤◌}
-use Rattle.std.proofs.lemmas.List.{length-take-le}
+use Rattle.std.proofs.{Common.{Bool, List, [], ap, arith, false, length, subst, sym, true, ℕ, ◌++◌, ◌∙◌, ◌≡◌, ◌≤◌}, lemmas.List.{length-take-le}}
 use Rattle.mc_boot.specs.Plan.{PowerOn}
 use Rattle.mc_campaign.proofs.Replays.{kind_of}
-use Rattle.mc_campaign.specs.declared.rounds.TwoRounds.{TwoRounds}
-use Rattle.mc_campaign.specs.inner.TwoRounds.{cuts_along, rounds}
+use Rattle.mc_campaign.specs.{declared.rounds.TwoRounds.{TwoRounds}, inner.TwoRounds.{cuts_along, rounds}}
 use Rattle.mc_explore.specs.inner.OneRound.{begins}
-use Rattle.mc_tree.specs.Tree.{IsMember, round_one}
-use Rattle.mc_tree.specs.facts.Order.{allowed_prefix}
+use Rattle.mc_tree.specs.{Tree.{IsMember, round_one}, facts.Order.{allowed_prefix}}
 use Rattle.mc_flash.specs.Flash.{Content}
 use Rattle.mc_walk.specs.Walks.{Follows, IsSame, Walked, origin_of}
 use Rattle.mc_campaign.proofs.campaign_subject.TwoRoundsCountable.key_at.Goals as goal

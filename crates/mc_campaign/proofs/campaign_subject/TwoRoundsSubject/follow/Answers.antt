@@ -1,11 +1,7 @@
 use Rattle.std.proofs.Common.{Bool, List, ℕ, true, false}
-use Rattle.mc_explore.specs.inner.OneRound.{begins}
-use Rattle.mc_explore.specs.inner.Exploring.{FollowsKey}
+use Rattle.mc_explore.specs.{inner.OneRound.{begins}, inner.Exploring.{FollowsKey}}
 use Rattle.mc_walk.specs.Walks.{Walked}
-use Rattle.mc_campaign.specs.inner.TwoRounds.{cuts_along}
-use Rattle.mc_campaign.specs.Rows.{campaigns}
-use Rattle.mc_campaign.specs.inner.View.{FollowsCampaign}
-use Rattle.mc_campaign.specs.declared.rounds.TwoRounds.{TwoRounds}
+use Rattle.mc_campaign.specs.{inner.TwoRounds.{cuts_along}, Rows.{campaigns}, inner.View.{FollowsCampaign}, declared.rounds.TwoRounds.{TwoRounds}}
 use Rattle.mc_campaign.proofs.Replays.{kind_of}
 use Rattle.mc_campaign.proofs.campaign_subject.TwoRoundsSubject.follow.Goals as goal
 

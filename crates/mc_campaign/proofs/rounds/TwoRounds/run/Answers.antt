@@ -1,7 +1,5 @@
-use Rattle.std.proofs.Common.{◌+◌}
-use Rattle.std.proofs.lemmas.Result.{err_from_is_err_and}
-use Rattle.mc_flash.specs.Usage.{most_operations}
-use Rattle.mc_flash.specs.facts.Spends.{ran_out_later, spent_both}
+use Rattle.std.proofs.{Common.{◌+◌}, lemmas.Result.{err_from_is_err_and}}
+use Rattle.mc_flash.specs.{Usage.{most_operations}, facts.Spends.{ran_out_later, spent_both}}
 use Rattle.mc_campaign.proofs.Steps.{both_outcomes, second_room, write_room}
 use Rattle.mc_campaign.proofs.rounds.TwoRounds.run.Goals as goal
 

@@ -1,7 +1,5 @@
-use Rattle.std.proofs.Common.{subst, sym, arith}
-use Rattle.std.proofs.lemmas.Result.{err_from_is_err_and}
-use Rattle.mc_flash.specs.facts.Spends.{ran_out_later, spent_both}
-use Rattle.mc_flash.specs.Usage.{LeaveRoom, plus}
+use Rattle.std.proofs.{Common.{subst, sym, arith}, lemmas.Result.{err_from_is_err_and}}
+use Rattle.mc_flash.specs.{facts.Spends.{ran_out_later, spent_both}, Usage.{LeaveRoom, plus}}
 use Rattle.mc_walk.specs.TreeModel.{HasNext, IsAt}
 use Rattle.mc_campaign.specs.declared.rounds.ChildBoot.TheVariants as child_boots
 use Rattle.mc_campaign.specs.inner.TwoRounds.{left_of_child_boot, two_rounds_model}

@@ -1,7 +1,6 @@
 use Rattle.std.proofs.Common.{Ok, Option, ap, subst, ◌∙◌}
 use Rattle.mc_image.specs.Valid.{Identity}
-use Rattle.mc_command.specs.Sessions.{ends_of}
-use Rattle.mc_command.specs.Verdicts.{IsExpectation}
+use Rattle.mc_command.specs.{Sessions.{ends_of}, Verdicts.{IsExpectation}}
 use Rattle.mc_command.proofs.commands.census.count.Goals as goal
 
 pub returns : goal.returns

@@ -1,8 +1,6 @@
 use Rattle.std.proofs.Common.{Some, None, Option, option_map, sym}
 use Rattle.std.specs.Prelude.{IfOk, IfSome, Result, Ok, Err}
-use Rattle.mc_explore.specs.Rows.{subject, RowRestarts, State, shown_row}
-use Rattle.mc_explore.specs.declared.error.ExploreError.{ExploreError}
-use Rattle.mc_explore.specs.declared.row.Row.{Row}
+use Rattle.mc_explore.specs.{Rows.{subject, RowRestarts, State, shown_row}, declared.error.ExploreError.{ExploreError}, declared.row.Row.{Row}}
 use Rattle.mc_explore.specs.Subject as states
 use Rattle.mc_explore.proofs.explorer.Explorer.next_row.Goals as goal
 

@@ -1,8 +1,6 @@
-use Rattle.std.proofs.Common.{◌≡◌, ℕ, List, ◌∷◌, ◌++◌, eqb, true, sym, ap, ◌∙◌}
-use Rattle.std.proofs.lemmas.Bool.{and_parts, eqb-true}
+use Rattle.std.proofs.{Common.{◌≡◌, ℕ, List, ◌∷◌, ◌++◌, eqb, true, sym, ap, ◌∙◌}, lemmas.Bool.{and_parts, eqb-true}}
 use Rattle.std.specs.Prelude.{◌&&◌, decimal}
-use Rattle.mc_image.specs.VersionText.{version_line}
-use Rattle.mc_image.specs.declared.version.Version.{Version}
+use Rattle.mc_image.specs.{VersionText.{version_line}, declared.version.Version.{Version}}
 use Rattle.mc_explore.proofs.labels.Label.text_of.Goals as goal
 
 same_line : (a b : Version) → true ≡ (eqb a.major b.major && (eqb a.minor b.minor && (eqb a.revision b.revision && eqb a.build b.build))) → version_line a ≡ version_line b

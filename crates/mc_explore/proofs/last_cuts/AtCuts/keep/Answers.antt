@@ -1,6 +1,5 @@
 use Rattle.std.proofs.Common.{rules, ◌≡◌, ◌++◌, ◌∷◌, [], sym, ap, subst, ◌∙◌, arith}
-use Rattle.mc_explore.specs.inner.LastCuts.{AreAtCuts}
-use Rattle.mc_explore.specs.declared.last_cuts.AtCuts.{AtCuts}
+use Rattle.mc_explore.specs.{inner.LastCuts.{AreAtCuts}, declared.last_cuts.AtCuts.{AtCuts}}
 use Rattle.mc_explore.proofs.Rowing.{kept_more, none_kept}
 use Rattle.mc_explore.proofs.last_cuts.AtCuts.keep.Goals as goal
 use Rattle.mc_explore.proofs.last_cuts.AtCuts.keep.Goals.{then-last-eq0, else-last-eq0}

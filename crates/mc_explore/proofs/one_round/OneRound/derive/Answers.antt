@@ -1,6 +1,5 @@
 use Rattle.std.proofs.Common.{◌≡◌, Some, arith}
-use Rattle.mc_boot.specs.Outcome.{outcome_of, shown, left_by}
-use Rattle.mc_boot.specs.Plan.{again}
+use Rattle.mc_boot.specs.{Outcome.{outcome_of, shown, left_by}, Plan.{again}}
 use Rattle.mc_explore.proofs.Onwards.{cut_so, left_still, summary_of, summary_still}
 use Rattle.mc_explore.proofs.one_round.OneRound.derive.Goals as goal
 

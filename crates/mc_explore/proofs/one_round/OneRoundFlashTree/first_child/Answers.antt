@@ -1,6 +1,5 @@
 use Rattle.std.proofs.Common.{◌∙◌}
-use Rattle.mc_explore.specs.facts.Occurring.{at_zero}
-use Rattle.mc_explore.specs.facts.Summaries.{first_left, first_on}
+use Rattle.mc_explore.specs.{facts.Occurring.{at_zero}, facts.Summaries.{first_left, first_on}}
 use Rattle.mc_explore.proofs.one_round.OneRoundFlashTree.first_child.Goals as goal
 use Rattle.mc_boot.specs.Plan.{power_on}
 

@@ -1,12 +1,9 @@
 use Rattle.std.proofs.Common.{◌≡◌, ◌+◌, ◌++◌, ◌∷◌, [], Bool, true, false, Option, Some, List, ℕ, refl, sym, ap, subst, ◌∙◌}
 use Rattle.mc_walk.specs.Walks.{Visits, position_of, IsPath, Walked, origin_of}
-use Rattle.mc_explore.specs.declared.ahead.RowsAhead.{RowsAhead}
-use Rattle.mc_explore.specs.inner.Exploring.{last_of, with_last, FindsRow, IsRowing, Rowed}
-use Rattle.mc_explore.specs.Subject.{IsRowAt}
+use Rattle.mc_explore.specs.{declared.ahead.RowsAhead.{RowsAhead}, inner.Exploring.{last_of, with_last, FindsRow, IsRowing, Rowed}, Subject.{IsRowAt}}
 use Rattle.mc_explore.proofs.Rowing.{HasArrived, ahead_there, few_next, going_there, last_next, last_there, listed_there, next_ahead, path_next, rowing_next, rowing_over, stands_for, stands_next, some_found, step}
+use Rattle.mc_explore.proofs.{Visiting.{row_back}, rows.Rows.next.Given.{Over}}
 use Rattle.std.specs.Prelude.{option_map}
-use Rattle.mc_explore.proofs.Visiting.{row_back}
-use Rattle.mc_explore.proofs.rows.Rows.next.Given.{Over}
 use Rattle.mc_explore.proofs.rows.Rows.next.Goals as goal
 use Rattle.mc_explore.proofs.rows.Rows.next.Goals.{After-arrive-self-inside, In-Some, In_ok-next_node}
 

@@ -1,24 +1,11 @@
 use Rattle.std.proofs.Common.{IfSome, List, None, Option, Some, ℕ}
-use Rattle.mc_boot.specs.Plan.{power_on}
-use Rattle.mc_boot.specs.declared.boot.Boot.{Boot}
-use Rattle.mc_boot.specs.declared.shared_tail.SharedTail.{SharedTail}
-use Rattle.mc_boot.specs.facts.Run.{outcome_defined}
-use Rattle.mc_explore.specs.Right.{judged}
-use Rattle.mc_explore.specs.declared.expectation.Expectation.{Expectation}
-use Rattle.mc_explore.specs.declared.one_round.Summary.{Summary}
-use Rattle.mc_explore.specs.facts.Listed.{report_after}
-use Rattle.mc_explore.specs.facts.Totals.{totals_weigh}
-use Rattle.mc_explore.specs.facts.Tails.{tail_shared}
-use Rattle.mc_explore.specs.inner.OneRound.{GoesOnIn, at_cut, boots, one_round}
-use Rattle.mc_explore.specs.inner.Table.{IsTailOf}
-use Rattle.mc_explore.specs.inner.Totals.{report_totals, totals}
-use Rattle.mc_flash.specs.Flash.{Content}
-use Rattle.mc_flash.specs.Geometry.{Geometry}
-use Rattle.mc_flash.specs.Usage.{Seen}
+use Rattle.mc_boot.specs.{Plan.{power_on}, declared.boot.Boot.{Boot}, declared.shared_tail.SharedTail.{SharedTail}, facts.Run.{outcome_defined}}
+use Rattle.mc_explore.specs.{Right.{judged}, declared.expectation.Expectation.{Expectation}, declared.one_round.Summary.{Summary}, facts.Listed.{report_after}}
+use Rattle.mc_explore.specs.{facts.Totals.{totals_weigh}, facts.Tails.{tail_shared}, inner.OneRound.{GoesOnIn, at_cut, boots, one_round}}
+use Rattle.mc_explore.specs.{inner.Table.{IsTailOf}, inner.Totals.{report_totals, totals}}
+use Rattle.mc_flash.specs.{Flash.{Content}, Geometry.{Geometry}, Usage.{Seen}}
 use Rattle.mc_trailer.specs.declared.tables.Rules.{Rules}
-use Rattle.mc_tree.specs.Tree.{landed}
-use Rattle.mc_tree.specs.facts.Weighed.{path_shared}
-use Rattle.mc_tree.specs.inner.Weights.{path_tree}
+use Rattle.mc_tree.specs.{Tree.{landed}, facts.Weighed.{path_shared}, inner.Weights.{path_tree}}
 use Rattle.mc_walk.specs.TreeModel.{IsChildOf}
 use Rattle.mc_explore.proofs.schedules.OneRoundEnding.shared_tail.Goals as goal
 

@@ -1,7 +1,5 @@
 use Rattle.std.proofs.Common.{List, ℕ, ap, ◌∙◌}
-use Rattle.mc_explore.specs.inner.OneRound.{begun_of}
-use Rattle.mc_explore.specs.Rows.{outcome_after}
-use Rattle.mc_explore.specs.facts.Listed.{lands_summary}
+use Rattle.mc_explore.specs.{inner.OneRound.{begun_of}, Rows.{outcome_after}, facts.Listed.{lands_summary}}
 use Rattle.mc_explore.proofs.schedules.OneRoundSubject.row.Goals as goal
 
 pub returns-clause-outcome : goal.returns-clause-outcome

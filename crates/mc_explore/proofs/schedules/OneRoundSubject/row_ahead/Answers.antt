@@ -1,7 +1,5 @@
 use Rattle.std.proofs.Common.{List, Some, ℕ, [], ◌∷◌, ◌++◌, ap, sym, ◌∙◌}
-use Rattle.mc_explore.specs.inner.OneRound.{begins}
-use Rattle.mc_explore.specs.Rows.{outcome_after}
-use Rattle.mc_explore.specs.facts.Listed.{lands_summary}
+use Rattle.mc_explore.specs.{inner.OneRound.{begins}, Rows.{outcome_after}, facts.Listed.{lands_summary}}
 use Rattle.mc_explore.proofs.Rowing.{outcome_there}
 use Rattle.mc_explore.proofs.schedules.OneRoundSubject.row_ahead.Goals as goal
 

@@ -2,8 +2,7 @@ use Rattle.std.proofs.Common.{◌≡◌, ℕ, ap, ◌∙◌, arith}
 use Rattle.mc_boot.specs.SharedTail.{index_in_parent}
 use Rattle.mc_tree.specs.inner.Weights.{from}
 use Rattle.mc_explore.specs.inner.Totals.{Totals, cut_off, totals}
-use Rattle.mc_explore.proofs.Counting.{more_first}
-use Rattle.mc_explore.proofs.Runs.{at_child}
+use Rattle.mc_explore.proofs.{Counting.{more_first}, Runs.{at_child}}
 use Rattle.mc_explore.proofs.table.Level.early.Goals as goal
 
 pub loop-number-preserved : goal.loop-number-preserved

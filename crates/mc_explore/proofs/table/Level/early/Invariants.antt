@@ -1,8 +1,7 @@
 use Rattle.std.proofs.Common.{◌≡◌, ℕ}
 use Rattle.mc_boot.specs.SharedTail.{index_in_parent}
 use Rattle.mc_tree.specs.inner.Weights.{from}
-use Rattle.mc_explore.specs.inner.Table.{IsInside, IsSummed}
-use Rattle.mc_explore.specs.inner.Totals.{Totals, cut_off, totals}
+use Rattle.mc_explore.specs.{inner.Table.{IsInside, IsSummed}, inner.Totals.{Totals, cut_off, totals}}
 use Rattle.mc_explore.proofs.table.Level.early.Given as goal
 
 abbrev pub invariant-loop-number : goal.invariant-loop-number

@@ -1,9 +1,7 @@
 use Rattle.std.proofs.Common.{ℕ, suc, sym, ap, ◌∙◌, arith}
-use Rattle.mc_boot.specs.Outcome.{shown}
-use Rattle.mc_boot.specs.SharedTail.{index_in_parent}
+use Rattle.mc_boot.specs.{Outcome.{shown}, SharedTail.{index_in_parent}}
 use Rattle.mc_tree.specs.inner.Weights.{shared_below}
-use Rattle.mc_explore.specs.inner.Table.{IsColumn, IsJoined}
-use Rattle.mc_explore.specs.inner.Totals.{cut_off, report_totals, totals}
+use Rattle.mc_explore.specs.{inner.Table.{IsColumn, IsJoined}, inner.Totals.{cut_off, report_totals, totals}}
 use Rattle.mc_explore.proofs.table.Level.next.Goals as goal
 
 pub returns-in-Joined : goal.returns-in-Joined

@@ -1,8 +1,7 @@
 use Rattle.std.proofs.Common.{ℕ, ap, ◌∙◌, ◌+◌, ◌-◌, ◌≡◌, arith, length, suc}
 use Rattle.mc_tree.specs.inner.Weights.{from}
 use Rattle.mc_explore.proofs.Runs.{rest_parts}
-use Rattle.mc_explore.specs.inner.Table.{begin_of, rest_from}
-use Rattle.mc_explore.specs.inner.Totals.{cut_off, totals}
+use Rattle.mc_explore.specs.{inner.Table.{begin_of, rest_from}, inner.Totals.{cut_off, totals}}
 use Rattle.mc_explore.proofs.table.Level.rest.Goals as goal
 
 pub returns : goal.returns

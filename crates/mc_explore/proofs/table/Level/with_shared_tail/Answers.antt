@@ -1,8 +1,7 @@
 use Rattle.std.proofs.Common.{ℕ, ◌+◌, ◌≤◌, ap, ◌∙◌, arith}
 use Rattle.mc_boot.specs.SharedTail.{index_in_parent}
 use Rattle.mc_tree.specs.inner.Weights.{from}
-use Rattle.mc_explore.specs.inner.Table.{rest_from}
-use Rattle.mc_explore.specs.inner.Totals.{cut_off, totals}
+use Rattle.mc_explore.specs.{inner.Table.{rest_from}, inner.Totals.{cut_off, totals}}
 use Rattle.mc_explore.proofs.table.Level.with_shared_tail.Goals as goal
 
 pub returns : goal.returns

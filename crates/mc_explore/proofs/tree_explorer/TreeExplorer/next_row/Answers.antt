@@ -1,8 +1,7 @@
 use Rattle.std.proofs.Common.{◌≡◌, Some, None, Option, option_map, refl, sym, ap, subst, ◌∙◌, arith}
 use Rattle.mc_flash.specs.Usage.{Seen}
 use Rattle.mc_start.specs.Start.{begun}
-use Rattle.mc_explore.specs.inner.Exploring.{FindsRow}
-use Rattle.mc_explore.specs.Subject.{Explored, moved_to}
+use Rattle.mc_explore.specs.{inner.Exploring.{FindsRow}, Subject.{Explored, moved_to}}
 use Rattle.mc_explore.proofs.Visiting.{Found, finds_none, moved_on, next_there, sound_on, sound_over, stays_so}
 use Rattle.mc_explore.proofs.tree_explorer.TreeExplorer.next_row.Given.{Over}
 use Rattle.mc_explore.proofs.tree_explorer.TreeExplorer.next_row.Goals as goal

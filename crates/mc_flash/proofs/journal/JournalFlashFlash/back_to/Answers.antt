@@ -1,7 +1,6 @@
 use Rattle.std.proofs.Common.{arith}
 use Rattle.std.specs.Vec.{vec_capacity}
-use Rattle.mc_flash.specs.Usage.{room_for}
-use Rattle.mc_flash.specs.inner.Journal.{limits_of, Journal, journal_with}
+use Rattle.mc_flash.specs.{Usage.{room_for}, inner.Journal.{limits_of, Journal, journal_with}}
 use Rattle.mc_flash.proofs.Undo.{checkpoint_below, sound_back, mark_fits, back}
 use Rattle.mc_flash.proofs.journal.JournalFlashFlash.back_to.Goals as goal
 

@@ -1,13 +1,7 @@
-use Rattle.std.proofs.Common.{◌≡◌, ◌+◌, length, inl, refl, subst, sym, arith}
-use Rattle.std.specs.List.{between}
-use Rattle.std.specs.Vec.{vec_capacity}
-use Rattle.std.proofs.lemmas.List.Edits.{length-between}
-use Rattle.mc_flash.specs.Flash.{Content, bytes_of, with_bytes, put, CanTry}
-use Rattle.mc_flash.specs.facts.Changes.{sized_is}
-use Rattle.mc_flash.specs.Usage.{room_for, Seen}
-use Rattle.mc_flash.specs.inner.Journal.{limits_of, Journal, journal_with}
-use Rattle.mc_flash.specs.declared.op.Op.{Op}
-use Rattle.mc_flash.specs.declared.op.Op.TheVariants.{Copy}
+use Rattle.std.proofs.{Common.{◌≡◌, ◌+◌, length, inl, refl, subst, sym, arith}, lemmas.List.Edits.{length-between}}
+use Rattle.std.specs.{List.{between}, Vec.{vec_capacity}}
+use Rattle.mc_flash.specs.{Flash.{Content, bytes_of, with_bytes, put, CanTry}, facts.Changes.{sized_is}, Usage.{room_for, Seen}}
+use Rattle.mc_flash.specs.{inner.Journal.{limits_of, Journal, journal_with}, declared.op.Op.{Op}, declared.op.Op.TheVariants.{Copy}}
 use Rattle.mc_flash.proofs.Undo.{by_write, write_back, sound_grown, refuses, is_full, does, copy_done, copy_refused}
 use Rattle.mc_flash.proofs.journal.JournalFlashFlash.copy.Goals as goal
 

@@ -1,18 +1,9 @@
-use Rattle.std.proofs.Common.{ℕ, [], ◌∷◌, ◌++◌, ◌+◌, ◌*◌, length, ◌<◌, ◌≤◌, ◌^◌, inl, inr, refl, subst, sym, ap, ◌∙◌, arith}
-use Rattle.std.specs.Prelude.{replicate}
-use Rattle.std.specs.List.{between}
-use Rattle.std.specs.Vec.{vec_capacity}
-use Rattle.std.proofs.lemmas.List.{length-replicate}
+use Rattle.std.proofs.{Common.{ℕ, [], ◌∷◌, ◌++◌, ◌+◌, ◌*◌, length, ◌<◌, ◌≤◌, ◌^◌, inl, inr, refl, subst, sym, ap, ◌∙◌, arith}, lemmas.List.{length-replicate}}
 use Rattle.std.proofs.Math.Nat.{mul-le-mul_right}
-use Rattle.mc_flash.specs.Geometry.{Geometry, IsLayout}
-use Rattle.mc_flash.specs.Flash.{Content, bytes_of, with_bytes, sectors_of, erased}
-use Rattle.mc_flash.specs.facts.Changes.{sized_is}
-use Rattle.mc_flash.specs.facts.Layouts.{sector_inside}
-use Rattle.mc_flash.specs.Usage.{room_for, Seen}
-use Rattle.mc_flash.specs.inner.Journal.{limits_of, Journal, journal_with}
-use Rattle.mc_flash.specs.declared.op.Op.TheVariants.{Erase}
-use Rattle.mc_flash.specs.declared.op.Slot.{Slot}
-use Rattle.mc_flash.specs.declared.op.Slot.TheVariants.{Primary, Secondary}
+use Rattle.std.specs.{Prelude.{replicate}, List.{between}, Vec.{vec_capacity}}
+use Rattle.mc_flash.specs.{Geometry.{Geometry, IsLayout}, Flash.{Content, bytes_of, with_bytes, sectors_of, erased}, facts.Changes.{sized_is}}
+use Rattle.mc_flash.specs.{facts.Layouts.{sector_inside}, Usage.{room_for, Seen}, inner.Journal.{limits_of, Journal, journal_with}}
+use Rattle.mc_flash.specs.{declared.op.Op.TheVariants.{Erase}, declared.op.Slot.{Slot}, declared.op.Slot.TheVariants.{Primary, Secondary}}
 use Rattle.mc_flash.specs.declared.entry.Entry.TheVariants.{Erased}
 use Rattle.mc_flash.proofs.Undo.{by_erase, erase_back, sound_grown, is_full, does, erase_done}
 use Rattle.mc_flash.proofs.journal.JournalFlashFlash.erase.Goals as goal

@@ -1,9 +1,6 @@
-use Rattle.std.proofs.Common.{◌++◌, [], ◌∷◌, subst, ap, ◌∙◌, arith}
-use Rattle.std.specs.Prelude.{Ok}
-use Rattle.std.specs.Vec.{vec_capacity}
-use Rattle.std.proofs.lemmas.List.{length-map}
-use Rattle.mc_flash.specs.Usage.{room_for, Seen, Marks}
-use Rattle.mc_flash.specs.inner.Journal.{limits_of, Journal, journal_with, seen_of, checkpoint_after}
+use Rattle.std.proofs.{Common.{◌++◌, [], ◌∷◌, subst, ap, ◌∙◌, arith}, lemmas.List.{length-map}}
+use Rattle.std.specs.{Prelude.{Ok}, Vec.{vec_capacity}}
+use Rattle.mc_flash.specs.{Usage.{room_for, Seen, Marks}, inner.Journal.{limits_of, Journal, journal_with, seen_of, checkpoint_after}}
 use Rattle.mc_flash.proofs.Undo.{sound_marked, marks_more}
 use Rattle.mc_flash.proofs.journal.JournalFlashFlash.mark.Goals as goal
 

@@ -1,10 +1,7 @@
 use Rattle.std.proofs.Common.{◌+◌, ◌≤◌, length, inl, refl, subst, sym, arith}
 use Rattle.std.specs.Vec.{vec_capacity}
-use Rattle.mc_flash.specs.Flash.{Content, bytes_of, with_bytes, put, size_of}
-use Rattle.mc_flash.specs.facts.Changes.{sized_is}
-use Rattle.mc_flash.specs.Usage.{room_for, Seen}
-use Rattle.mc_flash.specs.inner.Journal.{limits_of, Journal, journal_with}
-use Rattle.mc_flash.specs.declared.op.Op.TheVariants.{Program}
+use Rattle.mc_flash.specs.{Flash.{Content, bytes_of, with_bytes, put, size_of}, facts.Changes.{sized_is}, Usage.{room_for, Seen}}
+use Rattle.mc_flash.specs.{inner.Journal.{limits_of, Journal, journal_with}, declared.op.Op.TheVariants.{Program}}
 use Rattle.mc_flash.proofs.Undo.{by_write, write_back, sound_grown, refuses, is_full, does, program_done, program_refused}
 use Rattle.mc_flash.proofs.journal.JournalFlashFlash.program.Goals as goal
 

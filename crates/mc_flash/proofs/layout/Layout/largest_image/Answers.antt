@@ -1,6 +1,5 @@
 use Rattle.std.proofs.Common.{◌≡◌, ◌↔◌, ◌≤◌, ◌*◌, true, sym, ap, subst, ◌∙◌}
-use Rattle.mc_flash.specs.Geometry.{Geometry, fits, greatest_sectors}
-use Rattle.mc_flash.specs.Largest.{largest_image, fits_largest}
+use Rattle.mc_flash.specs.{Geometry.{Geometry, fits, greatest_sectors}, Largest.{largest_image, fits_largest}}
 use Rattle.mc_flash.proofs.layout.Layout.largest_image.Goals as goal
 
 largest : (c : goal.After-self) → c.greatest_sectors.result * c.self.inside.sector ≡ largest_image c.args.self.now

@@ -1,5 +1,4 @@
-use Rattle.std.proofs.Common.{arith}
-use Rattle.std.proofs.lemmas.Grind.{common_steps}
+use Rattle.std.proofs.{Common.{arith}, lemmas.Grind.{common_steps}}
 use Rattle.mc_flash.proofs.slots.Slots.fill.Goals as goal
 
 pub invariant_of-self-inside : goal.invariant_of-self-inside

@@ -1,7 +1,6 @@
 use Rattle.std.proofs.Common.{◌≡◌, None, refl, sym}
 use Rattle.std.specs.Prelude.{Option, Err}
-use Rattle.mc_flash.specs.Flash.{Becomes, Content}
-use Rattle.mc_flash.specs.declared.flash.FlashError.TheVariants.{NotErased}
+use Rattle.mc_flash.specs.{Flash.{Becomes, Content}, declared.flash.FlashError.TheVariants.{NotErased}}
 use Rattle.mc_flash.proofs.Undo.{program_refused}
 use Rattle.mc_flash.proofs.slots.Slots.program.Goals as goal
 

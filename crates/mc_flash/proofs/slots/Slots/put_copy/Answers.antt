@@ -1,10 +1,6 @@
-use Rattle.std.proofs.Common.{◌≡◌, ℕ, List, [], ◌+◌, ◌≤◌, length, ap, subst, ◌∙◌, arith}
-use Rattle.std.proofs.lemmas.Grind.{common_steps}
+use Rattle.std.proofs.{Common.{◌≡◌, ℕ, List, [], ◌+◌, ◌≤◌, length, ap, subst, ◌∙◌, arith}, lemmas.Grind.{common_steps}, lemmas.List.{with_items_is}}
 use Rattle.std.specs.List.{between}
-use Rattle.std.proofs.lemmas.List.{with_items_is}
-use Rattle.mc_flash.specs.Flash.{Content, bytes_of, with_bytes, put, size_of}
-use Rattle.mc_flash.specs.declared.op.Slot.{Slot}
-use Rattle.mc_flash.specs.declared.op.Slot.TheVariants.{Primary, Secondary}
+use Rattle.mc_flash.specs.{Flash.{Content, bytes_of, with_bytes, put, size_of}, declared.op.Slot.{Slot}, declared.op.Slot.TheVariants.{Primary, Secondary}}
 use Rattle.mc_flash.proofs.slots.Slots.put_copy.Goals as goal
 
 -- As many bytes as the secondary slot has.

@@ -1,8 +1,6 @@
-use Rattle.mc_flash.specs.inner.Snap.{copy_seen}
+use Rattle.mc_flash.specs.{inner.Snap.{copy_seen}, declared.op.Op.TheVariants.{Erase}}
 use Rattle.std.proofs.Common.{map}
-use Rattle.mc_flash.specs.declared.op.Op.TheVariants.{Erase}
-use Rattle.mc_flash.proofs.Copies.{copies_do}
-use Rattle.mc_flash.proofs.Undo.{erase_done}
+use Rattle.mc_flash.proofs.{Copies.{copies_do}, Undo.{erase_done}}
 use Rattle.mc_flash.proofs.snap.SnapFlashFlash.erase.Goals as goal
 
 pub returns : goal.returns

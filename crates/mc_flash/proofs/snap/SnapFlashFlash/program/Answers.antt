@@ -1,6 +1,5 @@
-use Rattle.mc_flash.specs.inner.Snap.{copy_seen}
+use Rattle.mc_flash.specs.{inner.Snap.{copy_seen}, declared.op.Op.TheVariants.{Program}}
 use Rattle.std.proofs.Common.{map}
-use Rattle.mc_flash.specs.declared.op.Op.TheVariants.{Program}
 use Rattle.mc_flash.proofs.Copies.{copies_become}
 use Rattle.mc_flash.proofs.snap.SnapFlashFlash.program.Goals as goal
 

@@ -1,6 +1,5 @@
 use Rattle.std.proofs.Common.{arith, sym, ap, ◌∙◌, subst, List, ℕ}
-use Rattle.mc_image.specs.Valid.{header_fault}
-use Rattle.mc_image.specs.inner.Judging.{HasHeader}
+use Rattle.mc_image.specs.{Valid.{header_fault}, inner.Judging.{HasHeader}}
 use Rattle.mc_image.proofs.JudgeLaws.{header_ends, header_error}
 use Rattle.mc_image.proofs.judge.Judge.after_fields.Goals as goal
 

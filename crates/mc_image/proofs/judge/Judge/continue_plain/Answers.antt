@@ -1,6 +1,5 @@
 use Rattle.std.proofs.Common.{◌≡◌, arith, ap, ◌∙◌, subst, append_assoc, List, ℕ}
-use Rattle.mc_image.specs.Image.{IsBytes}
-use Rattle.mc_image.specs.inner.Judging.{verdict, IsPlain}
+use Rattle.mc_image.specs.{Image.{IsBytes}, inner.Judging.{verdict, IsPlain}}
 use Rattle.mc_image.proofs.judge.Judge.continue_plain.Goals as goal
 
 pub returns-then-left-gt0 : goal.returns-then-left-gt0

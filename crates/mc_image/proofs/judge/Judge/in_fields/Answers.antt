@@ -1,5 +1,4 @@
-use Rattle.std.proofs.Common.{arith, sym, ap, ◌∙◌, length}
-use Rattle.std.proofs.lemmas.Bool.{eqb-true, eqb-false}
+use Rattle.std.proofs.{Common.{arith, sym, ap, ◌∙◌, length}, lemmas.Bool.{eqb-true, eqb-false}}
 use Rattle.mc_image.proofs.JudgeLaws.{fields_taken}
 use Rattle.mc_image.proofs.judge.Judge.in_fields.Goals as goal
 

@@ -1,8 +1,5 @@
-use Rattle.std.proofs.Common.{◌≡◌, ◌-◌, ◌++◌, arith, sym, ap, ◌∙◌, length, subst, List, ℕ, false, []}
-use Rattle.std.proofs.lemmas.List.{append-nil}
-use Rattle.mc_image.specs.Image.{protected_end}
-use Rattle.mc_image.specs.Valid.{protected_fault}
-use Rattle.mc_image.specs.inner.Judging.{verdict, HasHeader, IsProtected}
+use Rattle.std.proofs.{Common.{◌≡◌, ◌-◌, ◌++◌, arith, sym, ap, ◌∙◌, length, subst, List, ℕ, false, []}, lemmas.List.{append-nil}}
+use Rattle.mc_image.specs.{Image.{protected_end}, Valid.{protected_fault}, inner.Judging.{verdict, HasHeader, IsProtected}}
 use Rattle.mc_image.proofs.JudgeLaws.{has_header_more, body_ends, protected_bad, protected_tested, protected_taken}
 use Rattle.mc_image.proofs.judge.Judge.in_protected.Goals as goal
 

@@ -1,8 +1,6 @@
 use Rattle.std.proofs.Common.{List, ℕ, refl, ap, ◌∙◌}
 use Rattle.mc_boot.specs.Restart.{filled}
-use Rattle.mc_flash.specs.Flash.{with_bytes}
-use Rattle.mc_flash.specs.Geometry.{Geometry}
-use Rattle.mc_flash.specs.declared.op.Slot.TheVariants.{Secondary}
+use Rattle.mc_flash.specs.{Flash.{with_bytes}, Geometry.{Geometry}, declared.op.Slot.TheVariants.{Secondary}}
 use Rattle.mc_life.specs.Device.{Standing}
 use Rattle.mc_life.proofs.Going.{stored}
 use Rattle.mc_life.proofs.device.Device.download.Goals as goal

@@ -1,7 +1,6 @@
-use Rattle.std.proofs.Common.{refl}
+use Rattle.std.proofs.{Common.{refl}, lemmas.Result.{err_from_is_err_and}}
 use Rattle.mc_life.specs.Device.{Standing}
 use Rattle.mc_life.proofs.Going.{request_fails, stored}
-use Rattle.std.proofs.lemmas.Result.{err_from_is_err_and}
 use Rattle.mc_life.proofs.device.Device.request.Goals as goal
 
 pub returns-clause-goes : goal.returns-clause-goes

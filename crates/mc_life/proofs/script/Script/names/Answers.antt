@@ -1,5 +1,4 @@
-use Rattle.std.proofs.Common.{[], Some, None, map, option_map, append-nil, ◌++◌}
-use Rattle.std.proofs.lemmas.List.{map-append}
+use Rattle.std.proofs.{Common.{[], Some, None, map, option_map, append-nil, ◌++◌}, lemmas.List.{map-append}}
 use Rattle.mc_life.proofs.Naming.{AreNamed, names_line}
 use Rattle.mc_life.proofs.script.Script.names.Goals as goal
 

@@ -1,5 +1,4 @@
-use Rattle.std.proofs.Common.{◌≡◌, ℕ, ◌≤◌, ◌^◌, List, Option, None, Some, length, IfSome, ap, subst, sym, ◌∙◌}
-use Rattle.std.proofs.lemmas.Str.{IsUtf8-string_bytes}
+use Rattle.std.proofs.{Common.{◌≡◌, ℕ, ◌≤◌, ◌^◌, List, Option, None, Some, length, IfSome, ap, subst, sym, ◌∙◌}, lemmas.Str.{IsUtf8-string_bytes}}
 use Rattle.mc_life.proofs.script.Script.read.Goals as goal
 
 same_as : (known : Option (List ℕ)) (a b : List ℕ) → a ≡ b → IfSome known (λ xs. b ≡ xs) → IfSome known (λ xs. a ≡ xs)

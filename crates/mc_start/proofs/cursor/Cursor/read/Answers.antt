@@ -1,8 +1,6 @@
 use Rattle.std.specs.Prelude.{Ok}
 use Rattle.std.proofs.Common.{ap}
-use Rattle.mc_start.specs.Cursor.{start_text}
-use Rattle.mc_start.specs.Start.{schedule_text}
-use Rattle.mc_start.specs.declared.cursor.Cursor.{Cursor}
+use Rattle.mc_start.specs.{Cursor.{start_text}, Start.{schedule_text}, declared.cursor.Cursor.{Cursor}}
 use Rattle.mc_start.proofs.Cursors.{field_of, start_of, cursor_is}
 use Rattle.mc_start.proofs.cursor.Cursor.read.Goals as goal
 

@@ -1,6 +1,5 @@
 use Rattle.std.specs.Prelude.{length, ◌<◌}
-use Rattle.std.proofs.Common.{arith, ap, ◌∙◌}
-use Rattle.std.proofs.lemmas.List.{length-set}
+use Rattle.std.proofs.{Common.{arith, ap, ◌∙◌}, lemmas.List.{length-set}}
 use Rattle.mc_flash.specs.inner.Room.{len_again}
 use Rattle.mc_start.proofs.Starts.{zeros_beyond}
 use Rattle.mc_start.proofs.schedule.Schedule.push.Goals as goal

@@ -1,10 +1,7 @@
 use Rattle.std.specs.Prelude.{Ok, codes, decimal, List, ℕ}
-use Rattle.std.proofs.Common.{rules, arith, sym, ap, ◌∙◌}
-use Rattle.std.proofs.lemmas.Result.{err_from_is_err_and}
-use Rattle.std.proofs.lemmas.Slice.Eq.{bytes_eq-Decides}
-use Rattle.mc_output.specs.facts.Reading.{dash, not_next, not_last, left_next, text_next, text_last, all_read, added_valid}
+use Rattle.std.proofs.{Common.{rules, arith, sym, ap, ◌∙◌}, lemmas.Result.{err_from_is_err_and}, lemmas.Slice.Eq.{bytes_eq-Decides}}
+use Rattle.mc_output.specs.{facts.Reading.{dash, not_next, not_last, left_next, text_next, text_last, all_read, added_valid}, facts.Parting.{parted, one_piece}}
 use Rattle.mc_start.specs.facts.Reading.{spelling}
-use Rattle.mc_output.specs.facts.Parting.{parted, one_piece}
 use Rattle.mc_start.proofs.schedule.Schedule.read.Goals as goal
 
 pub returns-then-eq-clause-only : goal.returns-then-eq-clause-only

@@ -1,5 +1,4 @@
-use Rattle.std.specs.Prelude.{◌≡◌, ℕ, List, ◌++◌, length, decimal}
-use Rattle.std.specs.Str.{IsUtf8}
+use Rattle.std.specs.{Prelude.{◌≡◌, ℕ, List, ◌++◌, length, decimal}, Str.{IsUtf8}}
 use Rattle.mc_start.specs.Start.{IsSchedule, schedule_text}
 use Rattle.mc_output.specs.facts.Reading.{beyond, IsLeft}
 use Rattle.mc_start.proofs.schedule.Schedule.read.Given as goal

@@ -1,12 +1,8 @@
 use Rattle.std.proofs.Common.{◌≡◌, ℕ, ◌+◌, ◌*◌, ◌≤◌, List, length, take, drop, None, Ok, Option, Some, ap, refl, rules, sym, arith, ◌∙◌}
-use Rattle.std.proofs.Math.Nat.{mul-le-mul_right}
+use Rattle.std.proofs.{Math.Nat.{mul-le-mul_right}, lemmas.Bool.Decides.{nat_tests}}
 use Rattle.std.specs.Prelude.{option_map}
-use Rattle.std.proofs.lemmas.Bool.Decides.{nat_tests}
-use Rattle.mc_flash.specs.Flash.{Content, size_of}
-use Rattle.mc_flash.specs.Geometry.{Geometry}
-use Rattle.mc_flash.specs.declared.op.Slot.TheVariants.{Primary, Secondary}
-use Rattle.mc_boot.specs.Plan.{identity_of}
-use Rattle.mc_boot.specs.declared.image.ImageId.{ImageId}
+use Rattle.mc_flash.specs.{Flash.{Content, size_of}, Geometry.{Geometry}, declared.op.Slot.TheVariants.{Primary, Secondary}}
+use Rattle.mc_boot.specs.{Plan.{identity_of}, declared.image.ImageId.{ImageId}}
 use Rattle.mc_image.specs.Valid.{id_of}
 use Rattle.mc_start.specs.Start.{IsKnown, of_flash}
 use Rattle.mc_start.proofs.start.Start.from_flash.Goals as goal

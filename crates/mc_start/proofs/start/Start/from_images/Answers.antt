@@ -1,6 +1,5 @@
 use Rattle.std.proofs.Common.{rules, Some, length, arith, refl, sym, ap, ◌∙◌}
-use Rattle.mc_flash.specs.facts.Layouts.{fits_inside}
-use Rattle.mc_flash.specs.declared.op.Slot.TheVariants.{Primary, Secondary}
+use Rattle.mc_flash.specs.{facts.Layouts.{fits_inside}, declared.op.Slot.TheVariants.{Primary, Secondary}}
 use Rattle.mc_image.specs.Valid.{Identity, identity}
 use Rattle.mc_start.proofs.Starts.{names, given_ids}
 use Rattle.mc_start.proofs.start.Start.from_images.Goals as goal

@@ -1,5 +1,4 @@
-use Rattle.std.proofs.KnownBytes.{Appends-trans}
-use Rattle.std.proofs.lemmas.Result.{err_from_is_err_and}
+use Rattle.std.proofs.{KnownBytes.{Appends-trans}, lemmas.Result.{err_from_is_err_and}}
 use Rattle.mc_output.specs.facts.Results.{on_err, on_ok}
 use Rattle.mc_vectors.proofs.Tabled.{first_begun, then_begun}
 use Rattle.mc_vectors.proofs.case.Case.write.Goals as goal

@@ -1,5 +1,4 @@
-use Rattle.std.specs.List.{concat}
-use Rattle.std.specs.Prelude.{[], ◌++◌}
+use Rattle.std.specs.{List.{concat}, Prelude.{[], ◌++◌}}
 use Rattle.std.proofs.Common.{◌∙◌}
 use Rattle.mc_vectors.proofs.Digested.{both}
 use Rattle.mc_vectors.proofs.digests.Digests.digest_of.Goals as goal

@@ -1,5 +1,4 @@
-use Rattle.std.proofs.Common.{arith}
-use Rattle.std.proofs.lemmas.List.{get_or_default}
+use Rattle.std.proofs.{Common.{arith}, lemmas.List.{get_or_default}}
 use Rattle.mc_vectors.proofs.Digested.{concat_more}
 use Rattle.mc_vectors.proofs.digests.SlotDigests.add_to.Goals as goal
 

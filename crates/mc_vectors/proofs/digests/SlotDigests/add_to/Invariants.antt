@@ -1,5 +1,4 @@
-use Rattle.std.specs.Prelude.{List, take, ℕ, ◌++◌}
-use Rattle.std.specs.List.{concat}
+use Rattle.std.specs.{Prelude.{List, take, ℕ, ◌++◌}, List.{concat}}
 use Rattle.sha2.specs.Hashers.{Holds256}
 use Rattle.mc_vectors.proofs.digests.SlotDigests.add_to.Given as goal
 

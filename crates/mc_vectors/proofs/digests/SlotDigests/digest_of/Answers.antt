@@ -1,7 +1,5 @@
-use Rattle.std.specs.List.{between}
-use Rattle.std.specs.Prelude.{List, ℕ, ◌+◌, ◌*◌, ◌≡◌}
-use Rattle.std.proofs.Common.{ap, arith, sym, ◌∙◌}
-use Rattle.std.proofs.lemmas.Slice.Eq.{bytes_eq-Decides}
+use Rattle.std.specs.{List.{between}, Prelude.{List, ℕ, ◌+◌, ◌*◌, ◌≡◌}}
+use Rattle.std.proofs.{Common.{ap, arith, sym, ◌∙◌}, lemmas.Slice.Eq.{bytes_eq-Decides}}
 use Rattle.sha2.specs.Sha256.{sha256}
 use Rattle.mc_vectors.proofs.Digested.{digest_at}
 use Rattle.mc_vectors.proofs.digests.SlotDigests.digest_of.Goals as goal

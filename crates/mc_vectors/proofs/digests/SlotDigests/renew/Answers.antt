@@ -1,7 +1,5 @@
-use Rattle.std.specs.List.{range_with_len}
-use Rattle.std.specs.Prelude.{List, [], map, ℕ, ◌++◌, ◌∷◌}
-use Rattle.std.proofs.Common.{ap, arith, sym, ◌∙◌}
-use Rattle.std.proofs.lemmas.List.FromFn.{map-range_with_len_more}
+use Rattle.std.specs.{List.{range_with_len}, Prelude.{List, [], map, ℕ, ◌++◌, ◌∷◌}}
+use Rattle.std.proofs.{Common.{ap, arith, sym, ◌∙◌}, lemmas.List.FromFn.{map-range_with_len_more}}
 use Rattle.mc_vectors.specs.Cases.{sector_digest}
 use Rattle.mc_vectors.proofs.Digested.{made}
 use Rattle.mc_vectors.proofs.digests.SlotDigests.renew.Goals as goal

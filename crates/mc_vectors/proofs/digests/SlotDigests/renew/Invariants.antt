@@ -1,5 +1,4 @@
-use Rattle.std.specs.Prelude.{map, ◌≡◌}
-use Rattle.std.specs.List.{range_with_len}
+use Rattle.std.specs.{Prelude.{map, ◌≡◌}, List.{range_with_len}}
 use Rattle.mc_vectors.specs.Cases.{sector_digest}
 use Rattle.mc_vectors.proofs.digests.SlotDigests.renew.Given as goal
 

@@ -1,17 +1,10 @@
-use Rattle.std.specs.Prelude.{List, Some, [], refl, true, ℕ, ◌++◌, ◌∷◌, ◌≡◌}
+use Rattle.std.specs.{Prelude.{List, Some, [], refl, true, ℕ, ◌++◌, ◌∷◌, ◌≡◌}, BTreeSet.{Updates}, Cmp.Lexicographic.{slice_cmp}, Ordering.{nat_cmp}}
 use Rattle.std.proofs.Common.{ap, subst, sym, ◌∙◌}
-use Rattle.std.specs.BTreeSet.{Updates}
-use Rattle.std.specs.Cmp.Lexicographic.{slice_cmp}
-use Rattle.std.specs.Ordering.{nat_cmp}
 use Rattle.mc_boot.specs.Outcome.{after}
 use Rattle.mc_flash.specs.Geometry.{Geometry}
 use Rattle.mc_start.specs.Start.{begun}
-use Rattle.mc_vectors.specs.Cases.{flash_digest}
-use Rattle.mc_vectors.specs.declared.case.Case.{Case}
-use Rattle.mc_vectors.specs.inner.Digests.{AreOfFlash}
-use Rattle.mc_vectors.specs.inner.Searching.{AreKnown, IsBelow, IsSearch}
-use Rattle.mc_vectors.proofs.Extended.{first}
-use Rattle.mc_vectors.proofs.Known.{known_none, known_put}
+use Rattle.mc_vectors.specs.{Cases.{flash_digest}, declared.case.Case.{Case}, inner.Digests.{AreOfFlash}, inner.Searching.{AreKnown, IsBelow, IsSearch}}
+use Rattle.mc_vectors.proofs.{Extended.{first}, Known.{known_none, known_put}}
 use Rattle.mc_vectors.proofs.search.Search.begin.Goals as goal
 
 pub returns-clause-ready : goal.returns-clause-ready

@@ -2,9 +2,7 @@ use Rattle.std.specs.Prelude.{List, [], suc, ℕ, ◌++◌, ◌+◌, ◌∷◌, 
 use Rattle.std.proofs.Common.{ap, arith, subst, ◌∙◌}
 use Rattle.mc_explore.specs.facts.Children.{HasCome, IsAtChild, can_pass, come_on, reached, width_here}
 use Rattle.mc_start.specs.Start.{begun}
-use Rattle.mc_vectors.proofs.Arrived.{at_child, model_of, width_at}
-use Rattle.mc_vectors.proofs.Extended.{finished}
-use Rattle.mc_vectors.proofs.search.Search.expand.Given.{Over}
+use Rattle.mc_vectors.proofs.{Arrived.{at_child, model_of, width_at}, Extended.{finished}, search.Search.expand.Given.{Over}}
 use Rattle.mc_vectors.proofs.search.Search.expand.Goals as goal
 use Rattle.mc_vectors.proofs.search.Search.expand.Goals.{In-Ok}
 

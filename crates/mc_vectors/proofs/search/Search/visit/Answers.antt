@@ -1,17 +1,9 @@
-use Rattle.std.specs.Prelude.{List, true, ℕ, ◌+◌, ◌≡◌, ◌≢◌, Contains}
-use Rattle.std.specs.BTreeSet.{Updates}
-use Rattle.std.specs.Cmp.Lexicographic.{slice_cmp}
-use Rattle.std.specs.Ordering.{nat_cmp}
+use Rattle.std.specs.{Prelude.{List, true, ℕ, ◌+◌, ◌≡◌, ◌≢◌, Contains}, BTreeSet.{Updates}, Cmp.Lexicographic.{slice_cmp}, Ordering.{nat_cmp}}
 use Rattle.std.proofs.Common.{ap, subst, sym, ◌∙◌}
-use Rattle.mc_flash.specs.Geometry.{Geometry}
-use Rattle.mc_flash.specs.Usage.{Seen}
+use Rattle.mc_flash.specs.{Geometry.{Geometry}, Usage.{Seen}}
 use Rattle.mc_start.specs.Start.{begun}
-use Rattle.mc_vectors.specs.Cases.{flash_digest}
-use Rattle.mc_vectors.specs.declared.case.Case.{Case}
-use Rattle.mc_vectors.specs.inner.Digests.{AreOfFlash}
-use Rattle.mc_vectors.specs.inner.Searching.{AreKnown, IsExpanding}
-use Rattle.mc_vectors.proofs.Known.{known_kept, known_put, was_known, was_new}
-use Rattle.mc_vectors.proofs.Visited.{fresh_here, geometry_is, known_here, stands_at}
+use Rattle.mc_vectors.specs.{Cases.{flash_digest}, declared.case.Case.{Case}, inner.Digests.{AreOfFlash}, inner.Searching.{AreKnown, IsExpanding}}
+use Rattle.mc_vectors.proofs.{Known.{known_kept, known_put, was_known, was_new}, Visited.{fresh_here, geometry_is, known_here, stands_at}}
 use Rattle.mc_vectors.proofs.search.Search.visit.Goals as goal
 
 pub returns-then-not-branch-clause-ready : goal.returns-then-not-branch-clause-ready

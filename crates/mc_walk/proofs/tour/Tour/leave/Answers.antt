@@ -1,7 +1,6 @@
 use Rattle.std.proofs.Common.{ℕ, List, true, false, subst}
 use Rattle.mc_tree.specs.Tree.{Position}
-use Rattle.mc_walk.specs.Walks.{Toured, StandsBeyond, Visits}
-use Rattle.mc_walk.specs.declared.tour.Phase.TheVariants.{Going, Done}
+use Rattle.mc_walk.specs.{Walks.{Toured, StandsBeyond, Visits}, declared.tour.Phase.TheVariants.{Going, Done}}
 use Rattle.mc_walk.proofs.Touring.{left_on, left_over, stays_beyond}
 use Rattle.mc_walk.proofs.tour.Tour.leave.Goals as goal
 

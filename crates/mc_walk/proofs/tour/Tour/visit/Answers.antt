@@ -1,7 +1,6 @@
 use Rattle.std.proofs.Common.{ℕ, List, true, refl, sym, ap, subst, ◌∙◌}
 use Rattle.mc_tree.specs.Tree.{Position}
-use Rattle.mc_walk.specs.Walks.{Toured, StandsAt, Visits}
-use Rattle.mc_walk.specs.declared.tour.Phase.TheVariants.{Going}
+use Rattle.mc_walk.specs.{Walks.{Toured, StandsAt, Visits}, declared.tour.Phase.TheVariants.{Going}}
 use Rattle.mc_walk.proofs.Touring.{visits_first}
 use Rattle.mc_walk.proofs.tour.Tour.visit.Goals as goal
 

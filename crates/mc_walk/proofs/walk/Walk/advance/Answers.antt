@@ -1,7 +1,5 @@
-use Rattle.std.proofs.Common.{arith}
-use Rattle.std.proofs.lemmas.List.{length-map}
-use Rattle.mc_walk.proofs.Along.{advanced_down, advanced_up}
-use Rattle.mc_walk.proofs.Steps.{standing}
+use Rattle.std.proofs.{Common.{arith}, lemmas.List.{length-map}}
+use Rattle.mc_walk.proofs.{Along.{advanced_down, advanced_up}, Steps.{standing}}
 use Rattle.mc_walk.proofs.walk.Walk.advance.Goals as goal
 
 pub returns-then-branch-clause-step : goal.returns-then-branch-clause-step

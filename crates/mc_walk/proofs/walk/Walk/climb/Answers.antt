@@ -1,11 +1,7 @@
-use Rattle.std.proofs.Common.{◌≡◌, ◌+◌, ◌*◌, true, false, Some, None, length, refl, subst, ap, ◌∙◌, arith}
-use Rattle.std.proofs.lemmas.Result.{err_from_is_err_and}
-use Rattle.mc_flash.specs.Usage.{went_back, RanOut, Seen, Spent}
-use Rattle.mc_flash.specs.facts.Spends.{ran_out_later, spent_back}
-use Rattle.mc_walk.specs.inner.Stack.{LeavesOpen}
-use Rattle.mc_walk.specs.Walks.{Walked, walked, Climbs, child_cost}
-use Rattle.mc_walk.proofs.Steps.{Arrives, Leaves, standing, mark_there, can_go_on, arrives_on, climbed, none_on}
-use Rattle.mc_walk.proofs.walk.Walk.climb.Given.{Over}
+use Rattle.std.proofs.{Common.{◌≡◌, ◌+◌, ◌*◌, true, false, Some, None, length, refl, subst, ap, ◌∙◌, arith}, lemmas.Result.{err_from_is_err_and}}
+use Rattle.mc_flash.specs.{Usage.{went_back, RanOut, Seen, Spent}, facts.Spends.{ran_out_later, spent_back}}
+use Rattle.mc_walk.specs.{inner.Stack.{LeavesOpen}, Walks.{Walked, walked, Climbs, child_cost}}
+use Rattle.mc_walk.proofs.{Steps.{Arrives, Leaves, standing, mark_there, can_go_on, arrives_on, climbed, none_on}, walk.Walk.climb.Given.{Over}}
 use Rattle.mc_walk.proofs.walk.Walk.climb.Goals as goal
 use Rattle.mc_walk.proofs.walk.Walk.climb.Goals.{After-len, In_ok-summary}
 

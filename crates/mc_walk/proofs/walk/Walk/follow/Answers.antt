@@ -1,9 +1,7 @@
-use Rattle.std.proofs.Common.{ap, subst, ◌∙◌}
-use Rattle.std.proofs.lemmas.Result.{err_from_is_err_and}
+use Rattle.std.proofs.{Common.{ap, subst, ◌∙◌}, lemmas.Result.{err_from_is_err_and}}
 use Rattle.mc_flash.specs.facts.Spends.{ran_out_later}
 use Rattle.mc_walk.specs.Walks.{Walked, IsPath}
-use Rattle.mc_walk.proofs.Along.{along_all, along_begin, along_more, along_none, along_none_spent}
-use Rattle.mc_walk.proofs.Steps.{on_path, standing}
+use Rattle.mc_walk.proofs.{Along.{along_all, along_begin, along_more, along_none, along_none_spent}, Steps.{on_path, standing}}
 use Rattle.mc_walk.proofs.walk.Walk.follow.Goals as goal
 
 pub loop-number-init : goal.loop-number-init

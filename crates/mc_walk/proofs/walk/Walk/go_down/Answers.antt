@@ -1,8 +1,6 @@
 use Rattle.std.proofs.Common.{◌+◌, ◌*◌, true, false, Some, length, refl, subst, ap, ◌∙◌, arith}
-use Rattle.mc_walk.specs.Walks.{Walked, walked, GoesDown}
-use Rattle.mc_walk.specs.declared.frame.Frame.{Frame}
-use Rattle.mc_walk.proofs.Steps.{Ready, Arrives, can_reach, no_child, ready_here, ready_room, ready_mark, arrives, gone_down}
-use Rattle.mc_walk.proofs.walk.Walk.go_down.Given.{Over}
+use Rattle.mc_walk.specs.{Walks.{Walked, walked, GoesDown}, declared.frame.Frame.{Frame}}
+use Rattle.mc_walk.proofs.{Steps.{Ready, Arrives, can_reach, no_child, ready_here, ready_room, ready_mark, arrives, gone_down}, walk.Walk.go_down.Given.{Over}}
 use Rattle.mc_walk.proofs.walk.Walk.go_down.Goals as goal
 use Rattle.mc_walk.proofs.walk.Walk.go_down.Goals.{In_ok-at, In_ok-summary}
 

@@ -1,5 +1,4 @@
-use Rattle.std.proofs.lemmas.Option.{slice_get_read}
-use Rattle.std.proofs.Common.{◌≡◌, arith, length, refl, Some, ap, subst, ◌∙◌}
+use Rattle.std.proofs.{lemmas.Option.{slice_get_read}, Common.{◌≡◌, arith, length, refl, Some, ap, subst, ◌∙◌}}
 use Rattle.std.specs.List.{slice_get}
 use Rattle.mc_tree.specs.Tree.{labelled}
 use Rattle.mc_walk.specs.Walks.{Walked, root_of}

@@ -1,7 +1,5 @@
-use Rattle.std.proofs.Common.{arith}
-use Rattle.std.proofs.lemmas.Option.{slice_get_within}
-use Rattle.mc_walk.proofs.Stacks.{last_of}
-use Rattle.mc_walk.proofs.Steps.{last_there, standing}
+use Rattle.std.proofs.{Common.{arith}, lemmas.Option.{slice_get_within}}
+use Rattle.mc_walk.proofs.{Stacks.{last_of}, Steps.{last_there, standing}}
 use Rattle.mc_walk.proofs.walk.Walk.last_step.Goals as goal
 
 pub returns-clause-step : goal.returns-clause-step

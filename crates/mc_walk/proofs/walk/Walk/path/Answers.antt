@@ -1,9 +1,6 @@
-use Rattle.std.proofs.Common.{◌≡◌, ℕ, ◌<◌, ◌≤◌, List, take, length, length-take, ◌++◌, ◌∷◌, [], sym, ap, ◌∙◌, arith}
-use Rattle.std.proofs.lemmas.List.{length-map, take_more}
-use Rattle.mc_walk.specs.inner.Stack.{path_of}
-use Rattle.mc_walk.specs.declared.frame.Frame.{Frame}
-use Rattle.mc_walk.proofs.Stacks.{path-push}
-use Rattle.mc_walk.proofs.Steps.{standing}
+use Rattle.std.proofs.{Common.{◌≡◌, ℕ, ◌<◌, ◌≤◌, List, take, length, length-take, ◌++◌, ◌∷◌, [], sym, ap, ◌∙◌, arith}, lemmas.List.{length-map, take_more}}
+use Rattle.mc_walk.specs.{inner.Stack.{path_of}, declared.frame.Frame.{Frame}}
+use Rattle.mc_walk.proofs.{Stacks.{path-push}, Steps.{standing}}
 use Rattle.mc_walk.proofs.walk.Walk.path.Goals as goal
 
 small : 72 < 9223372036854775808

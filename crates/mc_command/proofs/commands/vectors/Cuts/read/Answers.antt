@@ -1,9 +1,7 @@
 use Rattle.std.specs.Prelude.{IsOk, List, Option, codes, unwrap_or, ℕ, ◌≡◌}
-use Rattle.std.proofs.Common.{[], ap, sym, true≢false, ◌∙◌}
-use Rattle.std.proofs.lemmas.Slice.Eq.{bytes_eq-Decides}
+use Rattle.std.proofs.{Common.{[], ap, sym, true≢false, ◌∙◌}, lemmas.Slice.Eq.{bytes_eq-Decides}}
 use Rattle.clap.specs.Matches.{found_of}
-use Rattle.mc_command.specs.Vectors.{GivesCuts}
-use Rattle.mc_command.specs.declared.commands.vectors.Cuts.{Cuts}
+use Rattle.mc_command.specs.{Vectors.{GivesCuts}, declared.commands.vectors.Cuts.{Cuts}}
 use Rattle.mc_command.specs.declared.commands.vectors.Cuts.TheVariants as cuts
 use Rattle.mc_command.proofs.commands.vectors.Cuts.read.Goals as goal
 
