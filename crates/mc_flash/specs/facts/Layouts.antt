@@ -80,15 +80,6 @@ sector_inside g slot i below =
     with_end : (z : ℕ) → (i + 1) * g.sector ≤ z → i * g.sector + g.sector ≤ z
     with_end z h = omega arith
 
--- and a data sector before the trailer
-pub sector_in_data : (g : Geometry) (slot : Slot) (i : ℕ) → i < data_sectors g slot → i * g.sector + g.sector ≤ data_end g slot
-sector_in_data g slot i below =
-    let rows : (i + 1) * g.sector ≤ data_sectors g slot * g.sector = mul-le-mul_right g.sector (omega arith) in
-    with_end (data_end g slot) rows
-  where
-    with_end : (z : ℕ) → (i + 1) * g.sector ≤ z → i * g.sector + g.sector ≤ z
-    with_end z h = omega arith
-
 -- a sector that is no data sector begins after them
 pub trailer_sector_beyond_data : (g : Geometry) (slot : Slot) (i : ℕ) → data_sectors g slot ≤ i → data_end g slot ≤ i * g.sector
 trailer_sector_beyond_data g slot i above = mul-le-mul_right g.sector above

@@ -23,18 +23,3 @@ pieces_layout grains.Unit g ok = record {
   size = ok.size;
   room = ok.room;
 }
-
-pieces_range : (g : Geometry) (slot : Slot) (at len : ℕ) → IsRange (in_pieces grains.Unit g) slot at len → IsRange g slot at len
-pieces_range g Primary at len r = record { inside = r.inside; start = r.start; units = r.units; some = r.some }
-pieces_range g Secondary at len r = record { inside = r.inside; start = r.start; units = r.units; some = r.some }
-
--- an operation of that layout is one of the flash's
-pub pieces_can : (c : Grain) (g : Geometry) (op : Op) → CanTry (in_pieces c g) op → CanTry g op
-pieces_can grains.Call g op can = can
-pieces_can grains.Unit g (Erase slot sector) can = below slot can
-  where
-    below : (slot : Slot) → sector < sectors_of (in_pieces grains.Unit g) slot → sector < sectors_of g slot
-    below Primary h = h
-    below Secondary h = h
-pieces_can grains.Unit g (Program slot at bytes) can = pieces_range g slot at (length bytes) can
-pieces_can grains.Unit g (Copy from at to offset len) can = (pieces_range g from at len can.0, pieces_range g to offset len can.1, can.2)

@@ -9,9 +9,6 @@ use Rattle.mc_flash.specs.declared.op.Op.{Op}
 
 -- ---- one after another
 
-pub spent_none : (f : Seen) → Spent 0 f f
-spent_none f = record { applied = omega arith; limits = refl; failed = refl }
-
 pub spent_both : (a b : ℕ) (x y z : Seen) → Spent a x y → Spent b y z → Spent (a + b) x z
 spent_both a b x y z s t = record { applied = omega (arith, s.applied, t.applied); limits = t.limits ∙ s.limits; failed = t.failed ∙ s.failed }
 

@@ -22,7 +22,6 @@ module _ {R : Type 0} where
       → length page < limit → more ≡ [] → JoinUp whole rows ended
   short_page limit whole page more rows ended joined first short none = grind (arith, length-take, append-nil, take_all)
 
--- The last of some rows is so from wherever one begins.
 pub last_same : {K R : Type 0} (key : R → K) (a b : K) (rows : List R) → 0 < length rows → last_key key a rows ≡ last_key key b rows
 last_same key a b [] some = absurd (omega (arith, some))
 last_same key a b (row ∷ rows) some = refl

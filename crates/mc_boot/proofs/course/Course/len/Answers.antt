@@ -6,7 +6,7 @@ pub returns-then-is_revert-clause-len : goal.returns-then-is_revert-clause-len
 returns-then-is_revert-clause-len c =
     let s = c.args.self.now in
     rw (c.in-New.is, c.len_of.ensures, c.len_of-swap.ensures, c.preparation.ensures, c.swap.ensures) (
-      rw (revert_is s.grain s.layout s.sectors c.in-New.kind c.in-New.size (sym c.is_revert.ensures ∙ c.if-is_revert.true)) (sym (length-append _ _))
+    rw (revert_is s.grain s.layout s.sectors c.in-New.kind c.in-New.size (sym c.is_revert.ensures ∙ c.if-is_revert.true)) (sym (length-append _ _))
     )
 
 pub returns-else-is_revert-clause-len : goal.returns-else-is_revert-clause-len
