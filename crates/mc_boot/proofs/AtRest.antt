@@ -2,16 +2,16 @@
 use Rattle.std.proofs.{Common.{ap, arith, inl, inr, sym, ◌∙◌}, Math.Nat.{mul-le-mul_right}, lemmas.Bool.{cases_lt}, lemmas.Bool.Decides.{nat_tests}}
 use Rattle.std.proofs.lemmas.Grind.{div_ceil_times}
 use Rattle.std.specs.Int.{div_ceil}
-use Rattle.std.specs.Prelude.{Bool, Option, [], false, if◌then◌else◌, int_le, nat_lt, not, pos, refl, true, ℕ, ◌&&◌, ◌*◌, ◌+◌, ◌<◌, ◌||◌, ◌≡◌, ◌≢◌, ◌≤◌, ◌⊎◌}
+use Rattle.std.specs.Prelude.{Bool, Option, [], false, if◌then◌else◌, nat_lt, not, refl, true, ℕ, ◌&&◌, ◌*◌, ◌+◌, ◌<◌, ◌||◌, ◌≡◌, ◌≢◌, ◌≤◌, ◌⊎◌}
 use Rattle.mc_boot.proofs.{Images.{HasImage}, Phases.{larger_size, new_swap_is, starting}, Plans.{plan_new, plan_resumed}, Starts.{count_of}}
 use Rattle.mc_boot.specs.Life.{asked_of, can_swap, done_or_fails, is_at_rest, is_on_trial, is_swap}
 use Rattle.mc_boot.specs.Plan.{Plan, PowerOn, image_size, images_of, new_plan, new_swap, nothing, plan, power_on, resumed_plan}
 use Rattle.mc_boot.specs.declared.image.Images.{Images}
 use Rattle.mc_flash.specs.{Flash.{Content, IsSized}, Geometry.{Geometry, IsLayout, fits, greatest_sectors}, declared.flash.Grain.{Grain}}
-use Rattle.mc_flash.specs.{declared.op.Slot.TheVariants.{Primary, Secondary}, facts.Layouts.{fits_few, greatest_is}}
+use Rattle.mc_flash.specs.{declared.op.Slot.TheVariants.{Primary, Secondary}, facts.Layouts.{fits_few}}
 use Rattle.mc_image.specs.Valid.{is_valid}
-use Rattle.mc_trailer.specs.{Tables.{is_good, is_resumed, is_set, is_unset, swap_type, table_of}, Trailer.{highest_entry, trailer_of}}
-use Rattle.mc_trailer.specs.{declared.tables.Profile.{Profile}, declared.tables.Rules.{Rules}, declared.tables.SwapType.{SwapType}}
+use Rattle.mc_trailer.specs.{Tables.{is_good, is_resumed, is_set, is_unset, table_of}, Trailer.{highest_entry, trailer_of}}
+use Rattle.mc_trailer.specs.{declared.tables.Rules.{Rules}, declared.tables.SwapType.{SwapType}}
 use Rattle.mc_trailer.specs.{declared.trailer.Flag.{Flag}, declared.trailer.Trailer.{Trailer}, facts.Tables.{types_are_rows}}
 use Rattle.mc_trailer.specs.declared.tables.SwapType.TheVariants as kinds
 
@@ -101,14 +101,11 @@ rests_or_wants x rest = go (is_resumed x.geometry x.content) refl
 
     go : (b : Bool) → is_resumed x.geometry x.content ≡ b → RestsOrWants x
     go true on =
-        let p = trailer_of x.geometry x.content Primary in
         let q = trailer_of x.geometry x.content Secondary in
         inl (record {
           kind = kinds.None;
           either = inl refl;
-          planned = plan_resumed x on
-              ∙ resumed_none x.rules.grain x.geometry p (highest_entry x.geometry x.content)
-              (no_swap (is_good p.magic) (is_unset p.copy_done) (is_swap p.swap_info) (not (is_good q.magic)) rest on);
+          planned = grind (arith, plan_resumed, resumed_none, no_swap, rest);
         })
     go false not_on = by (table_of x.rules.profile x.geometry x.content) not_on refl
 
@@ -146,33 +143,22 @@ rows : (gq uq sq gp rv up cp : Bool) → (gq ≡ true → rv ≡ false)
     ≡ (if gq then (if uq then kinds.Test else if sq then kinds.Perm else kinds.None) else if (gp && up && cp) && rv then kinds.Revert else kinds.None)
 rows gq uq sq gp rv up cp apart = grind (arith, apart)
 
-pub table_asks : (profile : Profile) (p q : Trailer) → swap_type profile p q ≡ asked_of profile (is_on_trial p) q
-table_asks profile p q = grind arith
-
 -- ---- whether it can be done
 
 few_small : (g : Geometry) (x : ℕ) → IsLayout g → div_ceil x g.sector ≤ greatest_sectors g → x ≤ greatest_sectors g * g.sector
 few_small g x ok at_most =
-    let wide = ok.least_sector in
-    let rows : x ≤ div_ceil x g.sector * g.sector = (div_ceil_times x g.sector (omega (arith, wide))).0 in
+    let rows : x ≤ div_ceil x g.sector * g.sector = (div_ceil_times x g.sector (omega arith)).0 in
     grind (arith, mul-le-mul_right, at_most, rows)
 
 small_few : (g : Geometry) (x : ℕ) → IsLayout g → x ≤ greatest_sectors g * g.sector → div_ceil x g.sector ≤ greatest_sectors g
 small_few g x ok small = elim (cases_lt (greatest_sectors g) (div_ceil x g.sector)) [
   | inr at_most ↦ at_most
   | inl more ↦ absurd (
-      let wide = ok.least_sector in
-      let rows = (div_ceil_times x g.sector (omega (arith, wide))).1 in
+      let rows = (div_ceil_times x g.sector (omega arith)).1 in
       let most : (greatest_sectors g + 1) * g.sector ≤ div_ceil x g.sector * g.sector = mul-le-mul_right g.sector (omega (arith, more)) in
       omega (arith, rows, most, small)
       )
 ]
-
-fits_of : (g : Geometry) (x : ℕ) → IsLayout g → div_ceil x g.sector ≤ greatest_sectors g → fits g x ≡ true
-fits_of g x ok at_most = ap (int_le (pos (div_ceil x g.sector))) (greatest_is g ok) ∙ less (div_ceil x g.sector) (greatest_sectors g) at_most
-  where
-    less : (a b : ℕ) → a ≤ b → int_le (pos a) (pos b) ≡ true
-    less a b h = grind (arith, nat_tests)
 
 not_below : (m n : ℕ) → m ≤ n → nat_lt n m ≡ false
 not_below m n h = grind (arith, nat_tests)
@@ -193,7 +179,7 @@ module _ (g : Geometry) (ok : IsLayout g) (s : Content) (rest : AtRest g s) wher
     | inl more ↦ below (div_ceil (larger_size s) g.sector) (greatest_sectors g) more
     | inr at_most ↦ absurd (
         let small = few_small g (larger_size s) ok at_most in
-        let fit = fits_of g (image_size s.secondary) ok (small_few g (image_size s.secondary) ok (omega (arith, small))) in
+        let fit : fits g (image_size s.secondary) ≡ true = grind (arith, small_few g (image_size s.secondary) ok (omega (arith, small))) in
         cc
         )
   ]
@@ -209,30 +195,21 @@ module _ (g : Geometry) (ok : IsLayout g) (s : Content) (rest : AtRest g s) wher
 
 -- ---- the next boot
 
-asked_none : (profile : Profile) (p q : Trailer) → is_good q.magic ≡ false → is_set p.copy_done ≡ false → asked_of profile (is_on_trial p) q ≡ kinds.None
-asked_none profile p q good set = grind (arith, good, set)
-
 not_set : (f : Flag) → is_unset f ≡ true → is_set f ≡ false
 not_set f is = grind arith
 
-on_parts : (a b c : Bool) → (a && b && not c) ≡ true → (b ≡ true) × (c ≡ false)
-on_parts a b c is = grind (arith, is)
-
 module _ (r : Rules) (g : Geometry) (ok : IsLayout g) (s : Content) (rest : AtRest g s) where
-  swap_kind : (kind : SwapType) → (new_swap r.grain g (images_of s) kind).kind ≡ (if can_swap g s.secondary then kind else kinds.Fail)
-  swap_kind kind = rw (fails_unless g ok s rest) (grind arith)
-
   pub next_is : (plan (power_on r g s)).kind ≡ done_or_fails (asked_of r.profile (is_on_trial (trailer_of g s Primary)) (trailer_of g s Secondary)) (can_swap g s.secondary)
   next_is = go (is_resumed g s) refl
     where
       table : table_of r.profile g s ≡ asked_of r.profile (is_on_trial (trailer_of g s Primary)) (trailer_of g s Secondary)
-      table = table_asks r.profile (trailer_of g s Primary) (trailer_of g s Secondary)
+      table = grind arith
 
       by : (kind : SwapType) → table_of r.profile g s ≡ kind → (new_plan r.grain g (images_of s) kind).kind ≡ done_or_fails kind (can_swap g s.secondary)
       by kinds.None at = refl
-      by kinds.Test at = swap_kind kinds.Test
-      by kinds.Perm at = swap_kind kinds.Perm
-      by kinds.Revert at = swap_kind kinds.Revert
+      by kinds.Test at = rw (fails_unless g ok s rest) (grind arith)
+      by kinds.Perm at = rw (fails_unless g ok s rest) (grind arith)
+      by kinds.Revert at = rw (fails_unless g ok s rest) (grind arith)
       by kinds.Fail at = absurd ((types_are_rows r.profile (trailer_of g s Primary) (trailer_of g s Secondary) kinds.Fail).0 at)
       by kinds.Panic at = absurd ((types_are_rows r.profile (trailer_of g s Primary) (trailer_of g s Secondary) kinds.Panic).0 at)
 
@@ -241,8 +218,8 @@ module _ (r : Rules) (g : Geometry) (ok : IsLayout g) (s : Content) (rest : AtRe
       go true on =
           let p = trailer_of g s Primary in
           let q = trailer_of g s Secondary in
-          let parts = on_parts (is_good p.magic) (is_unset p.copy_done) (is_good q.magic) on in
-          let none = asked_none r.profile p q parts.1 (not_set p.copy_done parts.0) in
+          let parts : (is_unset p.copy_done ≡ true) × (is_good q.magic ≡ false) = grind (arith, on) in
+          let none : asked_of r.profile (is_on_trial p) q ≡ kinds.None = grind (arith, parts.1, not_set p.copy_done parts.0) in
           let planned = plan_resumed (power_on r g s) on
           ∙ resumed_none r.grain g p (highest_entry g s) (no_swap (is_good p.magic) (is_unset p.copy_done) (is_swap p.swap_info) (not (is_good q.magic)) rest.rest on) in
           ap (λ (x : Plan). x.kind) planned ∙ ap (λ k. done_or_fails k (can_swap g s.secondary)) (sym none)

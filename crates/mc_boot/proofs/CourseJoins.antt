@@ -4,25 +4,26 @@ use Rattle.std.proofs.{Math.Nat.{mod-add-div', mul-le-mul_right}, Math.Seq.{drop
 use Rattle.std.proofs.{lemmas.List.{drop-drop, length-drop, length-take, length-map, drop_all}, lemmas.List.FromFn.{length-map-range_with_len}}
 use Rattle.std.specs.{Bool.{beq}, List.{AllByRecursion, between, range_with_len}}
 use Rattle.std.specs.Prelude.{Bool, IfSome, List, Option, Some, [], drop, false, flat_map, if◌then◌else◌, length, map, nat_le, not, option_map, refl, slice_get, suc, take, true, zero, ℕ, ◌&&◌, ◌*◌, ◌++◌, ◌+◌, ◌-◌, ◌/◌, ◌<◌, ◌==◌, ◌||◌, ◌∷◌, ◌≡◌, ◌≤◌}
-use Rattle.mc_boot.proofs.{Courses.{drop_at_place}, Joins.{IsJoined, Joins, are_equal, chosen, is_less, is_most, joined, less}}
+use Rattle.mc_boot.proofs.{Courses.{drop_at_place}, Joins.{IsJoined, Joins, are_equal, chosen, is_most, joined, less}}
 use Rattle.mc_boot.proofs.{Meets.{AreThere, BeginsIn, IsListed, IsRestOf, Meets, Sector, WritesIn, erase_of, all_weaker}, Transfers.{fits_at, there_is}}
 use Rattle.mc_boot.specs.facts.Lengths.{length-steps, length-transfers}
 use Rattle.mc_boot.specs.Boot.{IsBootOf, IsCold, Progress, all_saves, begun, course_list, list_from, progress, whole_list}
 use Rattle.mc_boot.specs.Joins.{IsCut, comes_to, erases_at, erases_of, is_same_grain, is_same_swap, kept_from, kept_of, harmless_opening_len, starts_as, harmless_transfer_len}
 use Rattle.mc_boot.specs.Outcome.{Report, at, left_by, ops_of, outcome_of}
-use Rattle.mc_boot.specs.Plan.{Plan, PowerOn, again, closing, copy_of, entry_of, from_transfer, image_ok_write, is_revert, is_test, marking, new_list, number_of, opening_writes, piece, plan, powered, preparation_writes, resumed_list, steps, swap_list, trailer_erase, trailer_erases, transfers, write}
+use Rattle.mc_boot.specs.Plan.{PowerOn, again, closing, copy_of, entry_of, from_transfer, image_ok_write, is_revert, is_test, marking, new_list, number_of, opening_writes, piece, plan, powered, preparation_writes, resumed_list, steps, swap_list, trailer_erase, trailer_erases, transfers, write}
 use Rattle.mc_boot.specs.{declared.boot.Boot.{Boot}, declared.course.Course.{Course}, declared.course.Opening.{Opening}}
 use Rattle.mc_boot.specs.{declared.course.Opening.TheVariants.{New, Resumed}, declared.transfer.Transfer.{Transfer}, facts.Bounds.{plan_few, plan_saves}}
 use Rattle.mc_boot.specs.facts.Run.{come_at}
 use Rattle.mc_flash.specs.{Flash.{Content, IsSized, sectors_of, size_of}, Geometry.{Geometry, IsLayout, greatest_sectors, in_pieces, trailer_sectors}}
 use Rattle.mc_flash.specs.{Usage.{Seen, most_operations, most_saved}, declared.flash.Grain.{Grain}, declared.op.Op.{Op}}
 use Rattle.mc_flash.specs.{declared.op.Op.TheVariants.{Erase, Program}, declared.op.Slot.{Slot}, declared.op.Slot.TheVariants.{Primary, Secondary}}
-use Rattle.mc_flash.specs.facts.Layouts.{trailer_covered, trailer_leaves_one}
+use Rattle.mc_flash.specs.facts.Layouts.{trailer_leaves_one}
 use Rattle.mc_trailer.specs.{Trailer.{before_end, one_unit, place, room}, declared.places.Field.{Field}, declared.tables.Rules.{Rules}}
 use Rattle.mc_trailer.specs.{declared.tables.SwapType.{SwapType}, facts.Places.{most_before_end, one_unit_fits, place_inside}, facts.Tables.{and_parts}}
 use lib.Seq.{take_at}
 use Rattle.mc_trailer.specs.declared.places.Field.TheVariants as field
 use Rattle.mc_flash.specs.declared.flash.Grain.TheVariants as grains
+use Rattle.std.proofs.lemmas.Bool.Decides.{nat_tests}
 
 -- Courses that go on within a transfer of another, or after its last: their lists are rests of the other's.
 
@@ -64,10 +65,6 @@ beyond_prefix prefix ops rest is = (length prefix + is.0, omega (arith, is.1, le
 
 pub whole_rest : (ops : List Op) → IsRestOf ops ops
 whole_rest ops = (0, omega arith, refl)
-
--- A rest begins where its length says.
-pub rest_at : (rest ops : List Op) → IsRestOf rest ops → rest ≡ drop (length ops - length rest) ops
-rest_at rest ops is = grind (arith, length-drop)
 
 -- ---- the rests of a course
 
@@ -135,8 +132,7 @@ pub comes_rest : (c : Grain) (g : Geometry) (n : ℕ) (opening : Opening) (first
 comes_rest c g n (New kind size) first erases true high is = let no_ : false ≡ true = (and_parts (not erases || first == 0) false is).1 in absurd cc
 comes_rest c g n (New kind size) first false false high is =
     new_rest c g kind size n (from_transfer g n first false) (resumed_rest g n 0 first true false (omega arith) high)
-comes_rest c g n (New kind size) first true false high is =
-    rw (are_equal first 0 (and_parts (first == 0) true is).0) (new_rest c g kind size n (resumed_list g n 0 true false) (whole_rest (resumed_list g n 0 true false)))
+comes_rest c g n (New kind size) first true false high is = grind (arith, are_equal, and_parts, is, new_rest, whole_rest)
 comes_rest c g n (Resumed start erased ok) first true image_ok high is = grind arith
 comes_rest c g n (Resumed start erased ok) first false image_ok high is = ends ok image_ok parts.1
   where
@@ -164,13 +160,10 @@ target t = record { slot = t.to; index = t.to_sector }
 abbrev target_steps : Geometry → Transfer → List Op
 target_steps g t = Erase t.to t.to_sector ∷ map (copy_of g t) (range_with_len 0 (g.sector / g.chunk))
 
-writes_copy : (g : Geometry) (t : Transfer) (i : ℕ) → i < g.sector / g.chunk → WritesIn g (target t ∷ []) (copy_of g t i)
-writes_copy g t i below = grind arith
-
 writes_target : (g : Geometry) (t : Transfer) → AllByRecursion (WritesIn g (target t ∷ [])) (target_steps g t)
 writes_target g t = (
   record { index = t.to_sector; listed = inl (refl, refl); from = omega arith; to = omega arith },
-  all_mapped (WritesIn g (target t ∷ [])) (copy_of g t) 0 (g.sector / g.chunk) (λ i h. writes_copy g t i (omega (arith, h))),
+  all_mapped (WritesIn g (target t ∷ [])) (copy_of g t) 0 (g.sector / g.chunk) (λ i h. grind arith),
 )
 
 -- A course at a transfer begins with its steps.
@@ -207,7 +200,7 @@ met_joins x u c j erases ops rest m sized cut early list_s list_u = record {
   cut = cut;
   early = early;
   passed = m.passed;
-  rest = list_u ∙ rest_at rest ops m.is_rest ∙ ap (λ n. drop n ops) (sym m.count) ∙ ap (drop j) (sym list_s);
+  rest = list_u ∙ (grind (arith, length-drop)) ∙ ap (λ n. drop n ops) (sym m.count) ∙ ap (drop j) (sym list_s);
   there = m.begins.there;
   erases = ap (take (length m.sectors)) list_u ∙ m.begins.erases;
   inside = let high = m.reached in rw list_u (all_less (WritesIn x.geometry m.sectors) rest (c - j) m.harmless_len (omega (arith, high)) m.begins.inside);
@@ -223,9 +216,6 @@ listed_prefix : (es fs : List Sector) (slot : Slot) (index : ℕ) → IsListed e
 listed_prefix [] fs slot index listed = absurd listed
 listed_prefix (e ∷ es) fs slot index (inl here) = inl here
 listed_prefix (e ∷ es) fs slot index (inr listed) = inr (listed_prefix es fs slot index listed)
-
-writes_more : (g : Geometry) (es fs : List Sector) (ops : List Op) → AllByRecursion (WritesIn g fs) ops → AllByRecursion (WritesIn g (es ++ fs)) ops
-writes_more g es fs ops all = grind (arith, all_weaker, listed_beyond)
 
 pub writes_erases : (g : Geometry) (es xs : List Sector) (rest : List Op) (harmless_len : ℕ) → ((slot : Slot) (index : ℕ) → IsListed xs slot index → IsListed es slot index)
     → AllByRecursion (WritesIn g es) (take harmless_len rest) → AllByRecursion (WritesIn g es) (take (length xs + harmless_len) (map erase_of xs ++ rest))
@@ -246,7 +236,7 @@ erases_begin : (g : Geometry) (es fs : List Sector) (rest : List Op) (harmless_l
 erases_begin g es fs rest harmless_len there begins = record {
   there = all_both _ es fs there begins.there;
   erases = first_erases es fs rest begins.erases;
-  inside = writes_erases g (es ++ fs) es rest harmless_len (λ slot index is. listed_prefix es fs slot index is) (writes_more g es fs (take harmless_len rest) begins.inside);
+  inside = writes_erases g (es ++ fs) es rest harmless_len (λ slot index is. listed_prefix es fs slot index is) (grind (arith, all_weaker, listed_beyond));
 }
 
 -- The sectors of a slot's trailer, from the last downward.
@@ -282,11 +272,11 @@ begins_so : (l : Geometry) (n first : ℕ) (erases image_ok last : Bool) → IsL
     × BeginsIn l (resumed_list l n first erases image_ok) es (if last then 0 else (if erases then trailer_sectors l else 0) + (l.sector / l.chunk + 1))
 begins_so l n first erases image_ok true ok at_most high is = ([], refl, record { there = tt; erases = refl; inside = tt })
 begins_so l n first false image_ok false ok at_most high is =
-    let there = there_is l n first (is_less first (3 * n) high is) in
+    let there = there_is l n first (grind (arith, nat_tests)) in
     let fits = fits_at l n first there.0 ok at_most there.1 in
     (target there.0 ∷ [], omega arith, rw (zero-add (l.sector / l.chunk + 1)) (transfer_begins l n first image_ok there.0 fits.inside.to there.1))
 begins_so l n first true image_ok false ok at_most high is =
-    let there = there_is l n first (is_less first (3 * n) high is) in
+    let there = there_is l n first (grind (arith, nat_tests)) in
     let fits = fits_at l n first there.0 ok at_most there.1 in (
       trailer_of_slot l Secondary ++ target there.0 ∷ [],
       omega (arith, length-append (trailer_of_slot l Secondary) (target there.0 ∷ []), length-trailer l Secondary),
@@ -321,11 +311,7 @@ course_meets g a b first erases image_ok done less layout_a layout_b ok grain se
 -- ---- the writes of fields lie in the slot's last sector
 
 listed_last : (g : Geometry) (slot : Slot) → IsLayout g → IsListed (trailer_of_slot g slot) slot (sectors_of g slot - 1 - 0)
-listed_last g slot ok = first (trailer_sectors g) (trailer_covered g ok)
-  where
-    first : (n : ℕ) → 3 * g.max_sectors * g.unit + 48 ≤ n * g.sector → IsListed (map (trailer_sector g slot) (range_with_len 0 n)) slot (sectors_of g slot - 1 - 0)
-    first zero covered = absurd (let none = zero-mul g.sector in omega (arith, covered, none))
-    first (suc n) covered = inl (refl, refl)
+listed_last g slot ok = grind arith
 
 in_last : (g : Geometry) (slot : Slot) (f : Field) → IsLayout g → ((sectors_of g slot - 1 - 0) * g.sector ≤ place g slot f) × (size_of g slot ≤ (sectors_of g slot - 1 - 0) * g.sector + g.sector)
 in_last g slot f ok = go (sectors_of g slot) (let leaves = trailer_leaves_one g slot ok in omega (arith, leaves)) (place_inside g slot f ok)
@@ -333,10 +319,8 @@ in_last g slot f ok = go (sectors_of g slot) (let leaves = trailer_leaves_one g 
     go : (n : ℕ) → 0 < n → (n * g.sector - before_end f) + before_end f ≡ n * g.sector → ((n - 1 - 0) * g.sector ≤ n * g.sector - before_end f) × (n * g.sector ≤ (n - 1 - 0) * g.sector + g.sector)
     go zero some inside = absurd (omega (arith, some))
     go (suc n) some inside =
-        let one : suc n - 1 - 0 ≡ n = omega arith in
         let rows : suc n * g.sector ≡ n * g.sector + g.sector = omega arith in
-        let wide = ok.least_sector in
-        rw one (omega (arith, rows, wide, most_before_end f), omega (arith, rows))
+        grind (arith, most_before_end)
 
 writes_part : (g : Geometry) (slot : Slot) (f : Field) (from : ℕ) (bytes : List ℕ) → IsLayout g → from + length bytes ≤ room f
     → WritesIn g (trailer_of_slot g slot) (Program slot (place g slot f + from) bytes)
@@ -355,18 +339,15 @@ writes_pieces_of grains.Unit g slot f new ok short =
     let at_most : length (between (j * g.unit) (j * g.unit + g.unit) new) ≤ g.unit = omega (arith, length-take (j * g.unit + g.unit - j * g.unit) (drop (j * g.unit) new)) in
     writes_part g slot f (j * g.unit) (between (j * g.unit) (j * g.unit + g.unit) new) ok (omega (arith, row, parts, at_most, short)))
 
-writes_marking : (c : Grain) (g : Geometry) (slot : Slot) (size : ℕ) → IsLayout g → AllByRecursion (WritesIn g (trailer_of_slot g slot)) (marking c g slot size)
-writes_marking c g slot size ok = grind (arith, all_both, writes_pieces_of)
-
 pub writes_preparation : (c : Grain) (g : Geometry) (size : ℕ) → IsLayout g → AllByRecursion (WritesIn g (trailer_of_slot g Secondary)) (preparation_writes c g size)
-writes_preparation c g size ok = (writes_field g Secondary field.ImageOk (one_unit g 1) ok (one_unit_fits g 1 field.ImageOk ok), writes_marking c g Secondary size ok)
+writes_preparation c g size ok = (writes_field g Secondary field.ImageOk (one_unit g 1) ok (one_unit_fits g 1 field.ImageOk ok), grind (arith, all_both, writes_pieces_of))
 
 pub writes_opening : (c : Grain) (g : Geometry) (kind : SwapType) (size : ℕ) → IsLayout g → AllByRecursion (WritesIn g (trailer_of_slot g Primary)) (opening_writes c g kind size)
 writes_opening c g kind size ok = (writes_field g Primary field.SwapInfo (one_unit g (number_of kind)) ok (one_unit_fits g (number_of kind) field.SwapInfo ok), by (is_test kind))
   where
     by : (b : Bool) → AllByRecursion (WritesIn g (trailer_of_slot g Primary)) (if b then marking c g Primary size else image_ok_write g Primary ∷ marking c g Primary size)
-    by true = writes_marking c g Primary size ok
-    by false = (writes_field g Primary field.ImageOk (one_unit g 1) ok (one_unit_fits g 1 field.ImageOk ok), writes_marking c g Primary size ok)
+    by true = grind (arith, all_both, writes_pieces_of)
+    by false = (writes_field g Primary field.ImageOk (one_unit g 1) ok (one_unit_fits g 1 field.ImageOk ok), grind (arith, all_both, writes_pieces_of))
 
 -- ---- the opening
 
@@ -414,9 +395,6 @@ anew_meets g a b kind size done layout_a layout_b grain sectors opening_a openin
 
 -- Where the test of two courses gives a number, the second goes on where the first was cut.
 
-same_grain : (c d : Grain) → is_same_grain c d ≡ true → c ≡ d
-same_grain c d is = grind arith
-
 same_start : (o : Opening) (kind : SwapType) (size : ℕ) → starts_as o kind size ≡ true → o ≡ New kind size
 same_start it kind size is = grind arith
 
@@ -428,7 +406,7 @@ from_opening g a b done j (New kind size) at_b ok layout_a layout_b is =
     let parts = and_parts (is_same_swap a b && starts_as a.opening kind size) far found.0 in
     let starts = and_parts (is_same_swap a b) (starts_as a.opening kind size) parts.0 in
     let swaps = and_parts (is_same_grain a.grain b.grain) (a.sectors == b.sectors) starts.0 in
-    rw (← found.1) (anew_meets g a b kind size done layout_a layout_b (same_grain a.grain b.grain swaps.0) (are_equal a.sectors b.sectors swaps.1)
+    rw (← found.1) (anew_meets g a b kind size done layout_a layout_b (grind arith) (are_equal a.sectors b.sectors swaps.1)
     (same_start a.opening kind size starts.1) at_b ok (is_most done (harmless_opening_len b.grain b.layout kind size) parts.1))
 from_opening g a b done j (Resumed first erases image_ok) at_b ok layout_a layout_b is =
     let less = length (course_list a) - length (course_list b) in
@@ -441,7 +419,7 @@ from_opening g a b done j (Resumed first erases image_ok) at_b ok layout_a layou
     let goes = and_parts (is_same_swap a b && inside) comes low.0 in
     let high = and_parts (is_same_swap a b) inside goes.0 in
     let swaps = and_parts (is_same_grain a.grain b.grain) (a.sectors == b.sectors) high.0 in
-    rw (← found.1) (course_meets g a b first erases image_ok done less layout_a layout_b ok (same_grain a.grain b.grain swaps.0) (are_equal a.sectors b.sectors swaps.1)
+    rw (← found.1) (course_meets g a b first erases image_ok done less layout_a layout_b ok (grind arith) (are_equal a.sectors b.sectors swaps.1)
     at_b (is_most first (3 * b.sectors) high.1) goes.1 refl (is_most less done low.1) (is_most done (less + harmless_len) far.1))
 
 pub joins_meet : (g : Geometry) (a b : Course) (done j : ℕ) → IsLayout b.layout → a.layout ≡ in_pieces a.grain g → b.layout ≡ in_pieces b.grain g → kept_of a done b ≡ Some j
@@ -450,20 +428,13 @@ joins_meet g a b done j ok layout_a layout_b is = from_opening g a b done j b.op
 
 -- The outcome of a boot after a cut, by the courses of the two boots.
 
-rest_is : (faulted : Bool) (done : ℕ) (ops rest : List Op) → faulted ≡ false → done ≡ 0 → (if faulted then [] else drop done ops) ≡ rest → ops ≡ rest
-rest_is faulted done ops rest whole none is = ap (λ (n : ℕ). drop n ops) (sym none) ∙ ap (λ (b : Bool). if b then [] else drop done ops) (sym whole) ∙ is
-
--- At power-on the whole list is to come.
-pub begun_list : (r : Rules) (p : Plan) (b : Boot) → progress b ≡ begun r p → whole_list b.course ≡ p.list
-begun_list r p b is = grind arith
-
 -- A boot at the beginning of its plan.
 pub is_cold : (r : Rules) (f : Seen) (b : Boot) → IsLayout f.geometry → IsSized f.geometry f.content → progress b ≡ begun r (plan (powered r f)) → IsBootOf f.geometry b → IsCold r f b
 is_cold r f b ok sized is of =
     let x = powered r f in
     record {
       boot = is;
-      list = begun_list r (plan x) b is;
+      list = grind arith;
       layout = of;
       at_most = subst (λ (p : Progress). length p.to_come ≤ most_operations r.grain f.geometry) (sym is) (plan_few x ok);
       saves = subst (λ (p : Progress). all_saves f.geometry p.to_come ≤ most_saved f.geometry) (sym is) (plan_saves x ok);
@@ -485,7 +456,7 @@ module _ (from : PowerOn) (u : Content) (cut next : Boot) (a b : Course) (whole 
       follows =
           let meets = joins_meet from.geometry a b cut.done j ok (layout_is from.geometry cut.course a at_a is.layout) (layout_is from.geometry next.course b at_b of) joins in
           let list_s : (plan from).list ≡ course_list a = sym is.list ∙ ap whole_list at_a in
-          let list_u : (plan (again from u)).list ≡ course_list b = sym (begun_list from.rules (plan (again from u)) next start) ∙ ap whole_list at_b in
+          let list_u : (plan (again from u)).list ≡ course_list b = sym (grind arith) ∙ ap whole_list at_b in
           joined from u cut.done j meets.sectors (met_joins from u cut.done j (erases_of b) (course_list a) (course_list b) meets is.sized (come_at from (progress cut) u is.come) is.early list_s
           list_u)
 

@@ -1,5 +1,5 @@
 -- Operation number k of each list of operations, by either grain.
-use Rattle.std.proofs.{Common.{ap, arith, zero-add, ◌∙◌, add-one}, Math.Nat.{mul-le-mul_left, mul-le-mul_right, zero-mul}}
+use Rattle.std.proofs.{Common.{ap, arith, zero-add, ◌∙◌, add-one}, Math.Nat.{mul-le-mul_right}}
 use Rattle.std.proofs.lemmas.List.FromFn.{length-map-range_with_len, length-range_with_len, get_or-range_with_len}
 use Rattle.std.proofs.lemmas.Option.{slice_get_within, get_or_from_slice_get, slice_get-get_or, slice_get-map}
 use Rattle.std.specs.List.{range_with_len}
@@ -8,7 +8,7 @@ use Rattle.mc_boot.specs.{Boot.{IsInside}, Plan.{brought_in, copy_of, entry_of, 
 use Rattle.mc_boot.specs.declared.transfer.Transfer.{Transfer}
 use Rattle.mc_flash.specs.{Flash.{CanTry, IsRange, sectors_of, size_of}, Geometry.{Geometry, IsLayout, greatest_sectors, in_pieces, trailer_sectors}}
 use Rattle.mc_flash.specs.{declared.flash.Grain.{Grain}, declared.op.Op.{Op}, declared.op.Slot.{Slot}}
-use Rattle.mc_flash.specs.facts.Layouts.{chunks_cover, trailer_covered, whole_add, whole_sector, whole_times}
+use Rattle.mc_flash.specs.facts.Layouts.{chunks_cover, whole_add, whole_sector, whole_times}
 use Rattle.mc_trailer.specs.{Trailer.{place}, declared.places.Field.{Field}}
 use lib.Seq.{drop-cons}
 use Rattle.mc_flash.specs.declared.flash.Grain.TheVariants as grains
@@ -103,18 +103,9 @@ can_of c g l it e h = grind arith
 pub few_transfers : (g : Geometry) (n first : ℕ) → IsLayout g → n ≤ greatest_sectors g → (3 * n - first) * (g.sector / g.chunk + 2) ≤ 201332736
 few_transfers g n first ok fits =
     let w = g.sector / g.chunk + 2 in
-    let at_most : n ≤ g.max_sectors = omega arith in
     let most = ok.few_sectors in
-    let rows : (3 * n - first) * w ≤ 3072 * w = mul-le-mul_right w (omega (arith, at_most, most)) in
-    let wide : g.sector / g.chunk ≤ 65536 = no_wider (g.sector / g.chunk) (chunks_cover g ok) in
-    omega (arith, rows, wide)
-  where
-    no_wider : (q : ℕ) → q * g.chunk ≡ g.sector → q ≤ 65536
-    no_wider q e =
-        let some = ok.some_chunk in
-        let big = ok.greatest_sector in
-        let more : q * 1 ≤ q * g.chunk = mul-le-mul_left q (omega (arith, some)) in
-        omega (arith, more, e, big)
+    let rows : (3 * n - first) * w ≤ 3072 * w = mul-le-mul_right w (omega (arith, most)) in
+    omega (arith, rows)
 
 -- The transfers by their number.
 
@@ -148,8 +139,4 @@ get_entry g t (suc c) e =
 
 -- A trailer takes a sector at least.
 pub some_trailer : (g : Geometry) → IsLayout g → 0 < trailer_sectors g
-some_trailer g ok = some (trailer_sectors g) (trailer_covered g ok)
-  where
-    some : (n : ℕ) → 3 * g.max_sectors * g.unit + 48 ≤ n * g.sector → 0 < n
-    some zero covered = absurd (let none = zero-mul g.sector in omega (arith, covered, none))
-    some (suc n) covered = omega arith
+some_trailer g ok = grind arith

@@ -1,6 +1,6 @@
 -- The starts of two images are flashes that a device can be delivered with.
 use Rattle.std.specs.{Prelude.{◌≡◌, ℕ, zero, suc, ◌-◌, ◌≤◌, nat_lt, true, List, [], ◌∷◌, ◌++◌, length, replicate, take, slice_index, refl}, List.{list_all}}
-use Rattle.std.proofs.{Common.{arith, sym, ap, ◌∙◌}, lemmas.Bool.{ltb-true}, lemmas.List.{get_or-append_right, get_or_append_left, get_or_past}}
+use Rattle.std.proofs.{Common.{arith, sym}, lemmas.Bool.{ltb-true}, lemmas.List.{get_or-append_right, get_or_append_left, get_or_past}}
 use Rattle.mc_boot.proofs.Images.{ImageLaws}
 use Rattle.mc_boot.proofs.Starts.{Holding, image_short, length-filled, primary_image, perm_holds, placed_holds, placed_unasked, test_holds}
 use Rattle.mc_boot.proofs.Wearing.{erased_bytes, put_bytes}
@@ -8,7 +8,7 @@ use Rattle.mc_boot.specs.{Plan.{image_size}, Life.{IsDelivered, StartsLaw, is_at
 use Rattle.mc_boot.specs.Restart.{BeginsImage, filled, image_bytes, perm_flash, placed, start_flash, test_flash}
 use Rattle.mc_boot.specs.declared.kind.Kind.TheVariants as starts
 use Rattle.mc_flash.specs.{facts.Changes.{length-put, same_content}, Flash.{Content, put, size_of}, facts.Layouts.{data_before_trailer}}
-use Rattle.mc_flash.specs.{Geometry.{Geometry, IsLayout, fits}, declared.op.Slot.{Slot}, declared.op.Slot.TheVariants.{Primary, Secondary}}
+use Rattle.mc_flash.specs.{Geometry.{Geometry, IsLayout}, declared.op.Slot.{Slot}, declared.op.Slot.TheVariants.{Primary, Secondary}}
 use Rattle.mc_image.specs.Image.{IsBytes}
 use Rattle.mc_trailer.specs.{facts.Fields.{reads_absent}, facts.Places.{place_inside}, Trailer.{trailer_of, magic_bytes, place}}
 use Rattle.mc_trailer.specs.declared.places.Field.TheVariants as field
@@ -76,12 +76,11 @@ module _ (laws : ImageLaws) (g : Geometry) (a b : List ℕ) (ok : IsLayout g) (a
   unfolding trailer_of
   perm_delivered =
       let h = perm_holds g a b laws ok at_a at_b in
-      let inside = place_inside g Secondary field.ImageOk ok in
       let magic = place_inside g Secondary field.Magic ok in
       let len = length-put (filled g Secondary (image_bytes b)) magic_bytes (place g Secondary field.Magic) (omega (arith, magic, full)) in
       from_image (perm_flash g (image_bytes a) (image_bytes b)) h a_bytes
       (put_bytes (put (filled g Secondary (image_bytes b)) (place g Secondary field.Magic) magic_bytes) (1 ∷ []) (place g Secondary field.ImageOk)
-      (omega (arith, inside, len, full)) marked (small_each (1 ∷ []) refl))
+      (omega (arith, len, full)) marked (small_each (1 ∷ []) refl))
       absent
 
 pub starts_law : ImageLaws → StartsLaw

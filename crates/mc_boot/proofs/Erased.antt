@@ -1,13 +1,10 @@
 -- Sectors that are erased already: to erase them again changes nothing.
-use Rattle.std.specs.Prelude.{◌≡◌, ◌≢◌, ◌⊎◌, ℕ, zero, suc, ◌+◌, ◌*◌, ◌-◌, ◌<◌, ◌≤◌, true, List, [], ◌∷◌, length, replicate, take, drop, slice_index, refl}
+use Rattle.std.specs.Prelude.{◌≡◌, ◌≢◌, ◌⊎◌, ℕ, zero, suc, ◌+◌, ◌*◌, ◌-◌, ◌<◌, ◌≤◌, true, List, [], ◌∷◌, length, replicate, take, drop, refl}
 use Rattle.std.specs.List.{between, AllByRecursion}
 use Rattle.std.proofs.{Common.{arith, sym, ap, subst, ◌∙◌, inl, inr}, lemmas.Bool.{cases_lt}, lemmas.Grind.{elements}, lemmas.List.{length-replicate}}
 use Rattle.mc_flash.specs.{Geometry.{Geometry}, Flash.{is_blank, Content, byte, bytes_of}, facts.Changes.{Changed, range_blank}, declared.op.Slot.{Slot}}
 use Rattle.mc_flash.specs.declared.op.Slot.TheVariants.{Primary, Secondary}
 use Rattle.mc_boot.proofs.Meets.{blank, erase_in, erases, Fit, fit_longer, same_bytes, same_content, which_slot, Sector, all_weaker}
-
-index_replicate : (n i : ℕ) → i < n → slice_index (replicate n 255) i ≡ 255
-index_replicate n i lt = grind (arith, elements)
 
 module _ (g : Geometry) where
   -- Each byte of the sector is 0xff.
@@ -30,7 +27,7 @@ module _ (g : Geometry) where
 
   becomes : (s : Content) (e : Sector) → Ends s e → IsErased (erase_in g s e) e
   becomes s e ends i lt =
-      (erases g s e ends).inside i (omega (arith, wide, lt)) ∙ index_replicate g.sector i lt
+      (erases g s e ends).inside i (omega (arith, wide, lt)) ∙ (grind (arith, elements))
 
   stays : (s : Content) (e f : Sector) → Ends s f → IsErased s e → IsErased (erase_in g s f) e
   stays s e f ends is i lt = by (which_slot e.slot f.slot)
@@ -53,7 +50,7 @@ module _ (g : Geometry) where
           inner : (k : ℕ) → f.index * g.sector + k ≡ at → k < g.sector → byte (erase_in g s f) f.slot at ≡ 255
           inner k same short =
               subst (λ n. byte (erase_in g s f) f.slot n ≡ 255) same
-              (after.inside k (omega (arith, wide, short)) ∙ index_replicate g.sector k short)
+              (after.inside k (omega (arith, wide, short)) ∙ (grind (arith, elements)))
 
       by : (e.slot ≡ f.slot) ⊎ (e.slot ≢ f.slot) → byte (erase_in g s f) e.slot at ≡ 255
       by (inl same) = rw same (here (rw same at (is i lt)))
@@ -69,7 +66,7 @@ module _ (g : Geometry) where
       inner : (i k : ℕ) → e.index * g.sector + k ≡ i → k < g.sector → byte (erase_in g s e) e.slot i ≡ byte s e.slot i
       inner i k at short =
           subst (λ n. byte (erase_in g s e) e.slot n ≡ byte s e.slot n) at
-          (after.inside k (omega (arith, wide, short)) ∙ index_replicate g.sector k short ∙ sym (is k short))
+          (after.inside k (omega (arith, wide, short)) ∙ (grind (arith, elements)) ∙ sym (is k short))
 
       here : (i : ℕ) → byte (erase_in g s e) e.slot i ≡ byte s e.slot i
       here i = elim (cases_lt i (e.index * g.sector)) [
@@ -97,14 +94,11 @@ module _ (g : Geometry) where
   blank_noop (e ∷ es) s fits are =
       ap (blank g es) (noop s e fits.0 are.0) ∙ blank_noop es s fits.1 are.1
 
-  all_stay : (xs : List Sector) (s : Content) (f : Sector) → Ends s f → AreErased xs s → AreErased xs (erase_in g s f)
-  all_stay xs s f ends are = all_weaker _ _ (λ x is. stays s x f ends is) xs are
-
   -- Sectors that are erased stay so.
   pub blank_stays : (xs es : List Sector) (s : Content) → Fit g es s → AreErased xs s → AreErased xs (blank g es s)
   blank_stays xs [] s fits are = are
   blank_stays xs (e ∷ es) s fits are =
-      blank_stays xs es (erase_in g s e) (fit_erased es s e fits.0 fits.1) (all_stay xs s e fits.0 are)
+      blank_stays xs es (erase_in g s e) (fit_erased es s e fits.0 fits.1) (all_weaker _ _ (λ x is. stays s x e fits.0 is) xs are)
 
   -- Sectors that were blanked are erased.
   pub blank_erased : (es : List Sector) (s : Content) → Fit g es s → AreErased es (blank g es s)

@@ -4,23 +4,23 @@ use Rattle.std.proofs.lemmas.List.Edits.{get_or-between}
 use Rattle.std.specs.List.{range_with_len}
 use Rattle.std.specs.Prelude.{Bool, List, Option, Some, [], false, if◌then◌else◌, length, map, refl, replicate, slice_index, true, ℕ, ◌&&◌, ◌*◌, ◌++◌, ◌+◌, ◌-◌, ◌<◌, ◌∷◌, ◌≡◌, ◌≢◌, ◌≤◌, ◌⊎◌}
 use Rattle.mc_boot.proofs.{AtRest.{AtRest, Idles, Wants, rests_or_wants}, Courses.{some_trailer}, Images.{ImageLaws, SameImage}}
-use Rattle.mc_boot.proofs.InPieces.{Steps, cycle, exchanged_pieces, keeps_more, pieces_again, plan_in_pieces, sized_whole, steps_by, swap_pieces, fields_pieces, fields_whole}
+use Rattle.mc_boot.proofs.InPieces.{trailer_pieces, Steps, cycle, exchanged_pieces, keeps_more, pieces_again, plan_in_pieces, sized_whole, steps_by, swap_pieces, fields_pieces, fields_whole}
 use Rattle.mc_boot.proofs.{Keeps.{Erased, Keeps, erase_inside}, Meets.{same_bytes, same_content as equal_content, which_slot}, Moving.{data_begin}}
-use Rattle.mc_boot.proofs.Phases.{Ended, Phase, MagicUnset, Swap, Waiting, asked, asked_from, asks, larger_size, new_is, not_when_done, plan_tested, magic_unset_reverts, starting, swap_of, tested, tested_from, unasked, no_panic}
+use Rattle.mc_boot.proofs.Phases.{Ended, Phase, Swap, Waiting, asked, asked_from, asks, larger_size, new_is, plan_tested, magic_unset_reverts, starting, swap_of, tested, tested_from, unasked}
 use Rattle.mc_boot.proofs.Starts.{count_of, swap_between}
-use Rattle.mc_boot.proofs.SwapEnds.{Crossed, Nothing, asked_boots, asked_swaps, crossed, exchanges, prefix_at_start, image_there, running_swaps, sees_start, settled_end, settled_on, tested_end, tested_fields, tested_on, Swaps}
+use Rattle.mc_boot.proofs.SwapEnds.{Crossed, Nothing, asked_boots, asked_swaps, crossed, exchanges, prefix_at_start, image_there, running_swaps, sees_start, settled_end, settled_on, tested_end, Swaps}
 use Rattle.mc_boot.proofs.SwapsKeep.{data_erased, magic_unset_blank, revert_keeps, magic_erased}
-use Rattle.mc_boot.specs.{Life.{DeviceState, EndsWell, Forgets, Leaves, LeavesBytes, booted, booted_by, device_state, is_at_rest, is_on_trial}, Outcome.{after}}
-use Rattle.mc_boot.specs.Plan.{Plan, PowerOn, new_list, nothing, plan, power_on, trailer_erase}
-use Rattle.mc_boot.specs.Restart.{AreExchanged, IsSettled, confirmed, confirmed_if, forgets_reverts, may_confirm}
+use Rattle.mc_boot.specs.{Life.{DeviceState, EndsWell, Forgets, Leaves, LeavesBytes, booted_by, device_state, is_on_trial}, Outcome.{after}}
+use Rattle.mc_boot.specs.Plan.{Plan, PowerOn, new_list, nothing, plan, power_on}
+use Rattle.mc_boot.specs.Restart.{IsTested, AreExchanged, IsSettled, confirmed, forgets_reverts, may_confirm}
 use Rattle.mc_flash.specs.Flash.{Content, IsSized, apply, byte, is_blank, sectors_of}
-use Rattle.mc_flash.specs.{Geometry.{Geometry, IsLayout, greatest_sectors, in_pieces, trailer_sectors}, declared.flash.Grain.{Grain}, declared.op.Op.{Op}}
-use Rattle.mc_flash.specs.{declared.op.Op.TheVariants.{Erase}, declared.op.Slot.{Slot}, declared.op.Slot.TheVariants.{Primary, Secondary}}
+use Rattle.mc_flash.specs.{Geometry.{Geometry, IsLayout, greatest_sectors, in_pieces}, declared.flash.Grain.{Grain}, declared.op.Op.{Op}}
+use Rattle.mc_flash.specs.{declared.op.Slot.{Slot}, declared.op.Slot.TheVariants.{Primary, Secondary}}
 use Rattle.mc_flash.specs.{facts.Changes.{Changed, blank_range, erase_changes, sized_is}, facts.Layouts.{small_unit}}
 use Rattle.mc_image.specs.Valid.{Identity, id_of, is_valid}
-use Rattle.mc_trailer.specs.{Tables.{asks_perm, asks_revert, asks_test, is_good, is_set, is_unset, reverts_at}, Trailer.{bytes_at, one_unit, place, trailer_of}}
-use Rattle.mc_trailer.specs.{declared.tables.Profile.{Profile}, declared.tables.Rules.{Rules}, declared.tables.SwapType.{SwapType}}
-use Rattle.mc_trailer.specs.{declared.trailer.Flag.{Flag}, declared.trailer.Magic.{Magic}, declared.trailer.Trailer.{Trailer}}
+use Rattle.mc_trailer.specs.{Tables.{is_good, is_set, is_unset, reverts_at}, Trailer.{bytes_at, one_unit, place, trailer_of}}
+use Rattle.mc_trailer.specs.{declared.tables.Rules.{Rules}, declared.tables.SwapType.{SwapType}}
+use Rattle.mc_trailer.specs.{declared.trailer.Trailer.{Trailer}}
 use Rattle.mc_trailer.specs.facts.Fields.{FieldIs, FieldsAre, blank_byte, blank_field, field_as, fields_same, reads_absent, reads_copy_done, reads_good, reads_image_ok, reads_not_good}
 use Rattle.mc_trailer.specs.{facts.Places.{field_ends}, facts.Tables.{types_are_rows, and_parts}}
 use Rattle.mc_trailer.specs.declared.places.Field.TheVariants as field
@@ -63,9 +63,6 @@ marked : (xs : List ℕ) → slice_index xs 0 ≡ 1 → is_blank xs ≡ false
 marked [] one = absurd (omega (arith, one))
 marked (x ∷ xs) one = rw one refl
 
-never : (magic done : Bool) → (magic && done && false) ≡ false
-never magic done = grind arith
-
 pub settled_stays : (x : PowerOn) → IsLayout x.geometry → IsSettled x → confirmed x.geometry x.content ≡ x.content
 unfolding confirmed trailer_of
 settled_stays x ok settled = grind (arith, marked, get_or-between)
@@ -74,10 +71,6 @@ settled_stays x ok settled = grind (arith, marked, get_or-between)
 pub unmarked_stays : (g : Geometry) (z : Content) → (trailer_of g z Primary).magic ≡ magics.Unset → confirmed g z ≡ z
 unfolding confirmed
 unmarked_stays g z absent = grind arith
-
--- whether it is to confirm itself or not
-pub unconfirmed : (confirms : Bool) (g : Geometry) (z : Content) → confirmed g z ≡ z → confirmed_if confirms g z ≡ z
-unconfirmed it g z is = grind arith
 
 -- A revert of whatever the secondary holds, by every rule; some rules can forget it.
 
@@ -110,15 +103,6 @@ erased_again s t u slot at new one two =
 from_first : (g : Geometry) (P Q : Content → Type 0) (f : ℕ → Op) (m : ℕ) (rest : List Op) (s t : Content) → 0 < m → P s → apply g (f 0) s ≡ Some t → apply g (f 0) t ≡ Some t
     → Keeps g P (map f (range_with_len 0 m) ++ rest) t Q → Keeps g P (map f (range_with_len 0 m) ++ rest) s Q
 from_first g it one f other rest s t some begin makes still keeps = grind arith
-
--- a magic that is quiet is not good
-magic_unset_not_good : (c : Grain) (g : Geometry) (t : Content) → IsLayout g → IsSized g t → MagicUnset c g t → is_good (trailer_of g t Secondary).magic ≡ false
-magic_unset_not_good it g t ok sized magic_unset = grind (arith, reads_not_good)
-
--- nothing is asked for, at a magic that is neither good nor one that the profile reverts at
-none_when_lost : (profile : Profile) (p q : Trailer) → is_good q.magic ≡ false → reverts_at profile q.magic ≡ false
-    → (asks_test p q ≡ false) × (asks_perm p q ≡ false) × (asks_revert profile p q ≡ false)
-none_when_lost profile p q bad kept = (grind (arith, bad), grind (arith, bad), grind (arith, kept))
 
 -- From s, where the primary's image is on trial and the plan is a revert. The layout is in pieces.
 module _ (r : Rules) (g : Geometry) (s : Content) (size n : ℕ) (whole : in_pieces r.grain g ≡ g) (w : Swap g s size n) where
@@ -159,8 +143,7 @@ module _ (r : Rules) (g : Geometry) (s : Content) (size n : ℕ) (whole : in_pie
     where
       forgotten : (b : Bool) → forgets_reverts r.grain r.profile ≡ b → reverts_at r.profile (trailer_of g t Secondary).magic ≡ false → forgets_reverts r.grain r.profile ≡ true
       forgotten true rules kept = rules
-      forgotten false rules kept =
-          let e : true ≡ false = sym (magic_unset_reverts r.grain r.profile g t rules w.ok is.data_.sized is.magic_unset) ∙ kept in absurd cc
+      forgotten false rules kept = grind (arith, magic_unset_reverts)
 
       go : (b : Bool) → reverts_at r.profile (trailer_of g t Secondary).magic ≡ b → Steps (power_on r g t) Reverts (MadeOrLost t)
       go true reverts =
@@ -172,12 +155,12 @@ module _ (r : Rules) (g : Geometry) (s : Content) (size n : ℕ) (whole : in_pie
           reverts (sees_start g s size n t w is.data_) w.count w.at_most)
           (λ e. cc) (listed t (from_waiting t t is))
       go false kept =
-          let bad = magic_unset_not_good r.grain g t w.ok is.data_.sized is.magic_unset in
+          let bad : is_good (trailer_of g t Secondary).magic ≡ false = grind (arith, reads_not_good) in
           let set = reads_copy_done g t Primary 1 [] (is.primary field.CopyDone) in
           let table = (types_are_rows r.profile (trailer_of g t Primary) (trailer_of g t Secondary) kinds.None).1
-          (none_when_lost r.profile (trailer_of g t Primary) (trailer_of g t Secondary) bad kept) in
+          (grind (arith, bad), grind (arith, bad), grind (arith, kept)) in
           let planned : plan (power_on r g t) ≡ nothing kinds.None =
-          new_is (power_on r g t) kinds.None (nothing kinds.None) (not_when_done (trailer_of g t Primary) (trailer_of g t Secondary) set) table refl in
+          new_is (power_on r g t) kinds.None (nothing kinds.None) (rw set (grind arith)) table refl in
           steps_by (power_on r g t) Reverts (MadeOrLost t) (nothing kinds.None) planned (λ e. cc)
           (inr (record { rules = forgotten (forgets_reverts r.grain r.profile) refl kept; waiting = is; planned = planned; stays = refl }))
 
@@ -195,15 +178,9 @@ module _ (r : Rules) (g : Geometry) (s : Content) (size n : ℕ) (whole : in_pie
         let last : ℕ = sectors_of g Secondary - 1 - 0 in
         let inside = erase_inside g Secondary 0 w.ok (some_trailer g w.ok) in
         let one = erase_changes g s Secondary last (omega (arith, inside, sized_is g s Secondary w.sized)) in
-        let sized = one.2.sizes Secondary in
-        let two = erase_changes g one.0 Secondary last (omega (arith, inside, sized, sized_is g s Secondary w.sized)) in
+        let two = erase_changes g one.0 Secondary last (omega (arith, inside, sized_is g s Secondary w.sized)) in
         let same : two.0 ≡ one.0 = erased_again s one.0 two.0 Secondary (last * g.sector) (replicate g.sector 255) one.2 two.2 in
-        let still : apply g (Erase Secondary last) one.0 ≡ Some one.0 = two.1 ∙ ap (λ (t : Content). Some t) same in
-        from_first g Reverts (MadeOrLost s) (trailer_erase g Secondary) (trailer_sectors g) _ s one.0 (some_trailer g w.ok) (inl (inr refl)) one.1 still
-        (from_waiting one.0 s (taken one.0 one.2))
-
-    start_steps : Steps (power_on r g s) Reverts (MadeOrLost s)
-    start_steps = steps_by (power_on r g s) Reverts (MadeOrLost s) (starting r.grain g kinds.Revert size n) planned (λ e. cc) (listed s start_keeps)
+        grind (arith, from_first, some_trailer, from_waiting, taken)
 
     -- by what a boot from a phase does
     swap_steps : (t : Content) → Swaps Waits (power_on r g s) size n false t → Steps (power_on r g t) Reverts (MadeOrLost t)
@@ -211,7 +188,7 @@ module _ (r : Rules) (g : Geometry) (s : Content) (size n : ℕ) (whole : in_pie
 
     pub revert_steps : (t : Content) → Reverts t → Steps (power_on r g t) Reverts (MadeOrLost t)
     revert_steps t (inl (inl is)) = waiting_steps t is
-    revert_steps t (inl (inr is)) = rw is start_steps
+    revert_steps t (inl (inr is)) = rw is (steps_by (power_on r g s) Reverts (MadeOrLost s) (starting r.grain g kinds.Revert size n) planned (λ e. cc) (listed s start_keeps))
     revert_steps t (inr (inl is)) = swap_steps t (asked_swaps Waits (power_on r g s) size n false whole w t is)
     revert_steps t (inr (inr is)) = swap_steps t (running_swaps Waits (power_on r g s) size n false is.0 is.1 whole w is.2 is.3 t is.4)
 
@@ -232,36 +209,13 @@ same_names p x a b q y next then_ e f h i = cc
 
 -- ---- trailers
 
-pub done_rests : (p : Trailer) → p.copy_done ≡ flags.Set → is_at_rest p ≡ true
-done_rests p set = rw set (grind arith)
-
-on_trial : (p : Trailer) → p.magic ≡ magics.Good → p.image_ok ≡ flags.Unset → p.copy_done ≡ flags.Set → is_on_trial p ≡ true
-on_trial p good unset set = rw good (rw unset (rw set refl))
-
-pub no_trial : (p : Trailer) → p.image_ok ≡ flags.Set → is_on_trial p ≡ false
-no_trial p set = rw set (grind arith)
-
-good_of : (m : Magic) → is_good m ≡ true → m ≡ magics.Good
-good_of m is = grind arith
-
-pub set_of : (f : Flag) → is_set f ≡ true → f ≡ flags.Set
-set_of f is = grind arith
-
-unset_of : (f : Flag) → is_unset f ≡ true → f ≡ flags.Unset
-unset_of f is = grind arith
-
 -- ---- a swap that is wanted
 
 module _ (laws : ImageLaws) (g : Geometry) (ok : IsLayout g) (s : Content) (rest : AtRest g s) where
-  -- the swap of the images that a flash at rest holds
-  pub swap_at : is_valid s.secondary ≡ true → count_of g s ≤ greatest_sectors g → Swap g s (larger_size s) (count_of g s)
-  swap_at valid at_most = swap_between g s laws ok rest.sized rest.primary (rest.secondary valid) at_most
-
   -- an image of it is in front of the trailers
   in_prefix : is_valid s.secondary ≡ true → count_of g s ≤ greatest_sectors g → larger_size s ≤ greatest_sectors g * g.sector
   in_prefix valid at_most =
-      let wide = ok.least_sector in
-      let rows : larger_size s ≤ count_of g s * g.sector = (div_ceil_times (larger_size s) g.sector (omega (arith, wide))).0 in
+      let rows : larger_size s ≤ count_of g s * g.sector = (div_ceil_times (larger_size s) g.sector (omega arith)).0 in
       grind (arith, count_of, mul-le-mul_right)
 
   -- what is left rests
@@ -279,22 +233,10 @@ module _ (laws : ImageLaws) (r : Rules) (g : Geometry) (ok : IsLayout g) (s : Co
   G = in_pieces r.grain g
 
   -- nothing to do
-  abbrev Still : SwapType → Type 0
-  Still k = LeavesBytes r g k (plan (power_on r g s)).sectors s s × (device_state r g s ≡ booted_by k (device_state r g s))
-
-  idle_rests : (i : Idles (power_on r g s)) (u z : Content) → z ≡ s → RestsAgain r g s u z
-  idle_rests i u z same =
-      let here = subst Still (sym (ap (λ (p : Plan). p.kind) i.planned)) (at i.kind i.either) in
-      rw same (record { leaves = inl (record { bytes = here.0; names = here.1 }); rest = rest })
-    where
-      at : (k : SwapType) → (k ≡ kinds.None) ⊎ (k ≡ kinds.Fail) → Still k
-      at k (inl e) = rw e (refl, refl)
-      at k (inr e) = rw e (refl, refl)
-
   idle_law : Idles (power_on r g s) → (u : Content) (cuts : List ℕ) → after (power_on r g s) cuts ≡ Some u → (z : Content) × EndsWell (power_on r g u) z × RestsAgain r g s u z
   idle_law i u cuts is =
       let end = cycle r g (λ t. t ≡ s) (λ t z. z ≡ s) steps (λ t z. valid z) cuts s u refl is in
-      (end.0, end.1, idle_rests i u end.0 end.2)
+      (end.0, end.1, grind arith)
     where
       not_panic : i.kind ≢ kinds.Panic
       not_panic panic = elim i.either [ inl e ↦ cc | inr e ↦ cc ]
@@ -308,16 +250,13 @@ module _ (laws : ImageLaws) (r : Rules) (g : Geometry) (ok : IsLayout g) (s : Co
   -- a swap that is made
   module _ (kind : SwapType) (wants : Wants (power_on r g s) kind) where
     whole_swap : Swap g s (larger_size s) (count_of g s)
-    whole_swap = swap_at laws g ok s rest wants.valid wants.at_most
+    whole_swap = swap_between g s laws ok rest.sized rest.primary (rest.secondary wants.valid) wants.at_most
 
     in_parts : Swap G s (larger_size s) (count_of g s)
     in_parts = swap_pieces r.grain g s (larger_size s) (count_of g s) whole_swap
 
     kind_is : (plan (power_on r g s)).kind ≡ kind
     kind_is = ap (λ (p : Plan). p.kind) wants.planned
-
-    booted_is : booted (device_state r g s) ≡ booted_by kind (device_state r g s)
-    booted_is = ap (λ k. booted_by k (device_state r g s)) kind_is
 
     module _ (b : Bool) (z : Content) (e : Ended G s (larger_size s) (count_of g s) b z) where
       held : Crossed s z
@@ -340,7 +279,7 @@ module _ (laws : ImageLaws) (r : Rules) (g : Geometry) (ok : IsLayout g) (s : Co
           bytes = let E : Plan → Type 0 = λ p. LeavesBytes r g p.kind p.sectors s z in subst E (sym wants.planned) (turns moved);
           names = same_names (id_of z.primary) (id_of s.secondary) (is_on_trial (trailer_of g z Primary)) trial (id_of z.secondary) (id_of s.primary)
               (plan (power_on r g z)).kind k held.primary.id tried held.secondary.id next
-              ∙ sym names ∙ sym booted_is;
+              ∙ sym names ∙ sym (ap (λ k. booted_by k (device_state r g s)) kind_is);
         });
         rest = rests_crossed laws g ok s rest z wants.valid wants.at_most sized held set;
       }
@@ -357,7 +296,7 @@ module _ (laws : ImageLaws) (r : Rules) (g : Geometry) (ok : IsLayout g) (s : Co
       steps : (t : Content) → Bears t → Steps (power_on r G t) Bears (Ended G s (larger_size s) (count_of g s) b)
       steps t at =
           let swaps = asked_boots r g s (larger_size s) (count_of g s) b (whole_swap kind wants) t at in
-          record { keeps = swaps.keeps; not_panic = λ panic. no_panic b swaps.planned.kind swaps.planned.of (sym swaps.planned.is ∙ panic) }
+          record { keeps = swaps.keeps; not_panic = λ panic. rw (sym swaps.planned.is ∙ panic) at swaps.planned.of }
 
       valid : (z : Content) → Ended G s (larger_size s) (count_of g s) b z → is_valid z.primary ≡ true
       valid z e = (held kind wants b z e).primary.valid
@@ -374,7 +313,7 @@ module _ (laws : ImageLaws) (r : Rules) (g : Geometry) (ok : IsLayout g) (s : Co
       let p = trailer_of g s Primary in
       let q = trailer_of g s Secondary in
       let asks = and_parts (is_good q.magic) (is_unset q.image_ok) ((types_are_rows r.profile p q kinds.Test).0 wants.table) in
-      let are = asked_from g s true (good_of q.magic asks.0) (unset_of q.image_ok asks.1) in
+      let are = asked_from g s true (grind arith) (grind arith) in
       let end = asked_cycle true kinds.Test wants are u cuts is in
       (end.0, end.1, rests end.0 end.2)
     where
@@ -382,14 +321,14 @@ module _ (laws : ImageLaws) (r : Rules) (g : Geometry) (ok : IsLayout g) (s : Co
       rests z e =
           let size = larger_size s in
           let n = count_of g s in
-          let first = fields_whole r.grain g z Primary tested (tested_fields G s size n z e) in
+          let first = fields_whole r.grain g z Primary tested (grind arith) in
           let here = sized kinds.Test wants true z e in
           let good = reads_good g z Primary ok here (first field.Magic) in
           let unset = reads_image_ok g z Primary 255 [] (first field.ImageOk) in
           let set = reads_copy_done g z Primary 1 [] (first field.CopyDone) in
-          let end = tested_on r g z (tested_end (power_on r G s) size n z (in_parts kinds.Test wants) e) in
+          let end : IsTested (power_on r g z) = grind (arith, trailer_pieces, plan_in_pieces, (tested_end (power_on r G s) size n z (in_parts kinds.Test wants) e)) in
           let free : may_confirm g z ≡ true = sym (may_pieces r.grain g z) ∙ may (power_on r G s) size n z (in_parts kinds.Test wants) e in
-          made_rests kinds.Test wants true z e u kinds.Revert true (λ m. (m, end, free)) refl end.next (on_trial (trailer_of g z Primary) good unset set) set
+          made_rests kinds.Test wants true z e u kinds.Revert true (λ m. (m, end, free)) refl end.next (rw good (rw unset (rw set refl))) set
 
   -- what a swap that stays leaves
   stays_rests : (kind : SwapType) → (wants : Wants (power_on r g s) kind) → ((z : Content) → AreExchanged g (count_of g s) s z → IsSettled (power_on r g z) → LeavesBytes r g kind (count_of g s) s z)
@@ -397,7 +336,7 @@ module _ (laws : ImageLaws) (r : Rules) (g : Geometry) (ok : IsLayout g) (s : Co
       → (u z : Content) → Ended G s (larger_size s) (count_of g s) false z → RestsAgain r g s u z
   stays_rests kind wants turns names u z e =
       let settled = settled_on r g z (settled_end (power_on r G s) (larger_size s) (count_of g s) z (in_parts kind wants) e) in
-      made_rests kind wants false z e u kinds.None false (λ m. turns z m settled) names settled.next (no_trial (trailer_of g z Primary) settled.image_ok) settled.copy_done
+      made_rests kind wants false z e u kinds.None false (λ m. turns z m settled) names settled.next (rw settled.image_ok (grind arith)) settled.copy_done
 
   -- an upgrade that stays
   perm_law : Wants (power_on r g s) kinds.Perm → (u : Content) (cuts : List ℕ) → after (power_on r g s) cuts ≡ Some u → (z : Content) × EndsWell (power_on r g u) z × RestsAgain r g s u z
@@ -405,13 +344,9 @@ module _ (laws : ImageLaws) (r : Rules) (g : Geometry) (ok : IsLayout g) (s : Co
       let p = trailer_of g s Primary in
       let q = trailer_of g s Secondary in
       let asks = and_parts (is_good q.magic) (is_set q.image_ok) ((types_are_rows r.profile p q kinds.Perm).0 wants.table) in
-      let are = asked_from g s false (good_of q.magic asks.0) (set_of q.image_ok asks.1) in
+      let are = asked_from g s false (grind arith) (grind arith) in
       let end = asked_cycle false kinds.Perm wants are u cuts is in
       (end.0, end.1, stays_rests kinds.Perm wants (λ z m n. (m, n)) refl u end.0 end.2)
-
-  -- a revert
-  four_hold : (a b c d : Bool) → (a && b && c && d) ≡ true → (a ≡ true) × (b ≡ true) × (c ≡ true) × (d ≡ true)
-  four_hold a b c d is = grind (arith, is)
 
   module _ (wants : Wants (power_on r g s) kinds.Revert) where
     pieces : Swap G s (larger_size s) (count_of g s)
@@ -445,14 +380,7 @@ module _ (laws : ImageLaws) (r : Rules) (g : Geometry) (ok : IsLayout g) (s : Co
         let unset = reads_image_ok g u Primary 255 [] (first field.ImageOk) in
         let set = reads_copy_done g u Primary 1 [] (first field.CopyDone) in
         rw l.stays (record {
-          leaves = inr (record {
-            rules = l.rules;
-            next = kind_is kinds.Revert wants;
-            idle = ap (λ (p : Plan). p.list) planned;
-            stays = refl;
-            names = same_names (id_of u.primary) (id_of s.primary) (is_on_trial (trailer_of g u Primary)) (is_on_trial (trailer_of g s Primary)) (id_of u.secondary) (id_of s.secondary)
-                (plan (power_on r g u)).kind kinds.None one.id (on_trial (trailer_of g u Primary) good unset set ∙ sym tried) two.id (ap (λ (p : Plan). p.kind) planned);
-          });
+          leaves = grind arith;
           rest = rests_same laws g ok s rest u wants.valid here one two set;
         })
 
@@ -460,10 +388,10 @@ module _ (laws : ImageLaws) (r : Rules) (g : Geometry) (ok : IsLayout g) (s : Co
     revert_law u cuts is =
         let p = trailer_of g s Primary in
         let q = trailer_of g s Secondary in
-        let asks = four_hold (is_good p.magic) (reverts_at r.profile q.magic) (is_unset p.image_ok) (is_set p.copy_done) ((types_are_rows r.profile p q kinds.Revert).0 wants.table) in
-        let good = good_of p.magic asks.0 in
-        let unset = unset_of p.image_ok asks.2 in
-        let set = set_of p.copy_done asks.3 in
+        let asks : ((is_good p.magic) ≡ true) × ((reverts_at r.profile q.magic) ≡ true) × ((is_unset p.image_ok) ≡ true) × ((is_set p.copy_done) ≡ true) = grind arith in
+        let good : p.magic ≡ magics.Good = grind arith in
+        let unset : p.image_ok ≡ flags.Unset = grind arith in
+        let set : p.copy_done ≡ flags.Set = grind arith in
         let are = tested_from g s good unset set in
         let planned : plan (power_on r G s) ≡ starting r.grain G kinds.Revert (larger_size s) (count_of g s) =
         plan_in_pieces r g s ∙ wants.planned
@@ -471,7 +399,7 @@ module _ (laws : ImageLaws) (r : Rules) (g : Geometry) (ok : IsLayout g) (s : Co
         let end = cycle r g Bearing Ending
         (λ t at. revert_steps r G s (larger_size s) (count_of g s) (pieces_again r.grain g) pieces (fields_pieces r.grain g s Primary tested are) planned t at)
         valid cuts s u (inl (inr refl)) is in
-        (end.0, end.1, rests end.0 (on_trial p good unset set) end.2)
+        (end.0, end.1, rests end.0 (rw good (rw unset (rw set refl))) end.2)
       where
         valid : (t z : Content) → Ending t z → is_valid z.primary ≡ true
         valid t z (inl e) = (held kinds.Revert wants false z e).primary.valid
@@ -483,11 +411,4 @@ module _ (laws : ImageLaws) (r : Rules) (g : Geometry) (ok : IsLayout g) (s : Co
 
   -- whatever the flash asks for
   pub rest_law : (u : Content) (cuts : List ℕ) → after (power_on r g s) cuts ≡ Some u → (z : Content) × EndsWell (power_on r g u) z × RestsAgain r g s u z
-  rest_law u cuts is = go (rests_or_wants (power_on r g s) rest.rest)
-    where
-      go : Idles (power_on r g s) ⊎ (Wants (power_on r g s) kinds.Test ⊎ (Wants (power_on r g s) kinds.Perm ⊎ Wants (power_on r g s) kinds.Revert))
-          → (z : Content) × EndsWell (power_on r g u) z × RestsAgain r g s u z
-      go (inl idle) = idle_law idle u cuts is
-      go (inr (inl wants)) = test_law wants u cuts is
-      go (inr (inr (inl wants))) = perm_law wants u cuts is
-      go (inr (inr (inr wants))) = revert_law wants u cuts is
+  rest_law u cuts is = grind (arith, rests_or_wants, idle_law, test_law, perm_law, revert_law)

@@ -2,7 +2,7 @@
 use Rattle.std.proofs.{Common.{ap, arith, sym, ◌∙◌}, lemmas.Grind.{same_number_lists}, lemmas.List.{get_or-take, length-take-le}}
 use Rattle.std.proofs.lemmas.Slice.Eq.{bytes_eq-Decides}
 use Rattle.std.specs.Option.{is_some}
-use Rattle.std.specs.Prelude.{Bool, List, None, Option, Some, false, if◌then◌else◌, is_none, length, max, option_map, refl, slice_index, take, true, ℕ, ◌&&◌, ◌<◌, ◌≡◌, ◌≤◌}
+use Rattle.std.specs.Prelude.{Bool, List, None, Option, Some, false, length, max, option_map, refl, slice_index, take, true, ℕ, ◌<◌, ◌≡◌, ◌≤◌}
 use Rattle.mc_boot.specs.{Plan.{identity_of, image_size, images_of}, declared.image.Held.{Held}, declared.image.ImageId.{ImageId}}
 use Rattle.mc_boot.specs.{declared.image.Images.{Images}, facts.Sizes.{size_read}}
 use Rattle.mc_flash.specs.Flash.{Content}
@@ -27,24 +27,13 @@ pub id_valid : (b : List ℕ) → is_valid b ≡ true → id_of b ≡ Some (iden
 unfolding id_of
 id_valid b valid = rw valid refl
 
-same_identity : (i j : Identity) → Some i ≡ Some j → i ≡ j
-same_identity i j e = cc
-
 pub id_parts : (b : List ℕ) (i : Identity) → id_of b ≡ Some i → (is_valid b ≡ true) × (identity (image_in b) ≡ i)
 unfolding id_of
-id_parts b i is = go (is_valid b) refl is
-  where
-    go : (t : Bool) → is_valid b ≡ t → (if t then Some (identity (image_in b)) else None) ≡ Some i → (is_valid b ≡ true) × (identity (image_in b) ≡ i)
-    go true valid e = (valid, same_identity (identity (image_in b)) i e)
-    go false valid e = absurd cc
+id_parts b i is = grind arith
 
 pub no_fault : (b : List ℕ) → is_valid b ≡ true → first_fault b ≡ None
 unfolding is_valid
-no_fault b valid = go (first_fault b) refl valid
-  where
-    go : (o : Option ImageError) → first_fault b ≡ o → (is_none o && is_good (image_in b)) ≡ true → first_fault b ≡ None
-    go None e _ = e
-    go (Some x) e is = absurd cc
+no_fault b valid = grind arith
 
 pub size_valid : (b : List ℕ) → is_valid b ≡ true → length (image_text (image_in b)) ≡ image_size b
 size_valid b valid = size_read b (no_fault b valid)
@@ -131,11 +120,8 @@ pub valid_id : (b : List ℕ) → is_some (id_of b) ≡ is_valid b
 unfolding id_of
 valid_id b = grind arith
 
-mapped : (o : Option ImageId) → is_some (option_map identity_of o) ≡ is_some o
-mapped it = grind arith
-
 pub valid_held : (b : List ℕ) (o : Option ImageId) → option_map identity_of o ≡ id_of b → is_some o ≡ is_valid b
-valid_held b o is = sym (mapped o) ∙ ap (λ (x : Option Identity). is_some x) is ∙ valid_id b
+valid_held b o is = sym (grind arith) ∙ ap (λ (x : Option Identity). is_some x) is ∙ valid_id b
 
 -- what a new swap asks of the slots, by its parts
 images_are : (s : Content) (valid : Bool) (size : ℕ) → valid ≡ is_valid s.secondary → size ≡ max (image_size s.primary) (image_size s.secondary) → record { valid = valid; size = size } ≡ images_of s

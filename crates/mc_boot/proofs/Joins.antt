@@ -21,9 +21,6 @@ are_equal m n is = grind (arith, nat_tests)
 pub is_most : (m n : ℕ) → nat_le m n ≡ true → m ≤ n
 is_most m n is = grind (arith, nat_tests)
 
-pub is_less : (m n : ℕ) → m ≤ n → (m == n) ≡ false → m < n
-is_less m n high is = grind (arith, nat_tests)
-
 -- Which number a test gives, where it gives one.
 pub chosen : (t : Bool) (m n : ℕ) → (if t then Some m else None) ≡ Some n → (t ≡ true) × (m ≡ n)
 chosen it m n is = grind arith
@@ -171,10 +168,9 @@ meets x u c j es joins =
     let g = x.geometry in
     let s = x.content in
     let cut : applied g (take c (happening g (plan x).list s)) s ≡ Some u = joins.cut in
-    let early = joins.early in
     let passed = joins.passed in
     let prefix : take c (happening g (plan x).list s) ≡ take j (plan x).list ++ take (c - j) (plan (again x u)).list =
-    happens_prefix g (plan x).list c s (omega (arith, early))
+    happens_prefix g (plan x).list c s (omega arith)
     ∙ ap (λ (n : ℕ). take n (plan x).list) (omega (arith, passed))
     ∙ take-add j (c - j) (plan x).list
     ∙ ap (λ (xs : List Op). take j (plan x).list ++ take (c - j) xs) (sym joins.rest) in
@@ -243,8 +239,7 @@ joined x u c j es joins = record { count = count; faulted = faulted; left = left
     lists = let a = joins.early in let b = joins.passed in omega (arith, a, b, at_most, ap (λ (xs : List Op). length xs) joins.rest, length-drop j (plan x).list)
 
     faulted : nat_lt (length (happening x.geometry (plan (again x u)).list u)) (length (plan (again x u)).list) ≡ nat_lt (length (happening x.geometry (plan x).list x.content)) (length (plan x).list)
-    faulted = same_fault (length (happening x.geometry (plan (again x u)).list u)) (length (happening x.geometry (plan x).list x.content)) (length (plan (again x u)).list)
-        (length (plan x).list) j count lists
+    faulted = grind (arith, same_fault, count, lists)
 
     left : left_by (again x u) ≡ left_by x
     left =

@@ -9,7 +9,7 @@ use Rattle.mc_boot.specs.Plan.{PowerOn, piece, plan, power_on, trailer_erase, tr
 use Rattle.mc_flash.specs.{Flash.{Content, IsSized, apply, byte, bytes_of, sectors_of, size_of}, Geometry.{Geometry, IsLayout, trailer_sectors}}
 use Rattle.mc_flash.specs.{declared.flash.Grain.{Grain}, declared.op.Op.{Op}, declared.op.Op.TheVariants.{Program}, declared.op.Slot.{Slot}}
 use Rattle.mc_flash.specs.facts.Changes.{Changed, erase_changes, program_changes, sized_is}
-use Rattle.mc_flash.specs.facts.Layouts.{data_end, sector_inside, trailer_leaves_one, trailer_sector_beyond_data}
+use Rattle.mc_flash.specs.facts.Layouts.{data_end, sector_inside, trailer_leaves_one}
 use Rattle.mc_image.specs.Valid.{is_valid}
 use Rattle.mc_trailer.specs.{Trailer.{place, room}, declared.places.Field.{Field}, declared.tables.Rules.{Rules}}
 use Rattle.mc_trailer.specs.{facts.Fields.{FieldIs, blank_byte, field_write}, facts.Places.{field_beyond_data, field_ends}}
@@ -86,8 +86,7 @@ restart r g P Q boot (c ∷ cuts) s t p is = go (restart r g P Q boot cuts) (nat
         absurd cc
     go later true can =
         let cut = keeps_at r g P Q s c (ltb-true c (length (ops_of (power_on r g s))) can) (boot s p) in
-        later cut.0 t cut.2 (sym (ap (λ b. option_and_then (λ t. after (power_on r g t) cuts) (if b then at (power_on r g s) c else None)) can
-        ∙ ap (option_and_then (λ t. after (power_on r g t) cuts)) cut.1) ∙ is)
+        grind arith
 
 -- the same end, said weaker
 pub keeps_then : (g : Geometry) (P Q R : Content → Type 0) (ops : List Op) (s : Content) → ((t : Content) → Q t → R t) → Keeps g P ops s Q → Keeps g P ops s R
@@ -95,10 +94,6 @@ keeps_then g P Q R [] s then_ k = then_ s k
 keeps_then g P Q R (op ∷ ops) s then_ k = (k.0, (k.1.0, k.1.1, keeps_then g P Q R ops k.1.0 then_ k.1.2))
 
 -- The erases of a trailer.
-
--- the i-th erase of a trailer is after the data, and in the slot
-pub erase_beyond_data : (g : Geometry) (o : Slot) (i : ℕ) → i < trailer_sectors g → data_end g o ≤ (sectors_of g o - 1 - i) * g.sector
-erase_beyond_data g o i below = trailer_sector_beyond_data g o (sectors_of g o - 1 - i) (omega arith)
 
 pub erase_inside : (g : Geometry) (o : Slot) (i : ℕ) → IsLayout g → i < trailer_sectors g → (sectors_of g o - 1 - i) * g.sector + g.sector ≤ size_of g o
 erase_inside g o i ok below = sector_inside g o (sectors_of g o - 1 - i) (let leaves = trailer_leaves_one g o ok in omega arith)
@@ -118,16 +113,7 @@ erased_here g slot i s t p ch from below = at ((sectors_of g slot - 1 - i) * g.s
         ap (byte t slot) (omega (arith, low)) ∙ c.inside (p - z) (omega (arith, short, length-replicate {A = ℕ} g.sector 255)) ∙ get_or-replicate g.sector (p - z) 255 0 short
 
 pub erased_still : (g : Geometry) (slot : Slot) (i : ℕ) (s t : Content) (p : ℕ) → Erased g slot i s t → byte s slot p ≡ 255 → byte t slot p ≡ 255
-erased_still g slot i s t p ch was = at ((sectors_of g slot - 1 - i) * g.sector) refl
-  where
-    at : (z : ℕ) → (sectors_of g slot - 1 - i) * g.sector ≡ z → byte t slot p ≡ 255
-    at z is = elim (cases_lt p z) [
-      | inl low ↦ ch.before p (omega (arith, is, low)) ∙ was
-      | inr from ↦ elim (cases_lt p (z + g.sector)) [
-        | inl below ↦ erased_here g slot i s t p ch (omega (arith, is, from)) (omega (arith, is, below))
-        | inr above ↦ ch.beyond p (omega (arith, is, above, length-replicate {A = ℕ} g.sector 255)) ∙ was
-      ]
-    ]
+erased_still g slot i s t p ch was = grind (arith, cases_lt, erased_here, length-replicate)
 
 -- R holds before the i-th erase; after the last the slot is 0xff after its data sectors.
 pub erases_keep : (g : Geometry) (slot : Slot) (P : Content → Type 0) (R : ℕ → Content → Type 0) (s : Content) → IsLayout g
@@ -158,12 +144,7 @@ erases_keep g slot P R s ok bears step begin =
 
     more : (i : ℕ) (t u : Content) → i < trailer_sectors g → Erased g slot i t u → ((p : ℕ) → (sectors_of g slot - i) * g.sector ≤ p → p < size_of g slot → byte t slot p ≡ 255) → (p : ℕ)
         → (sectors_of g slot - (i + 1)) * g.sector ≤ p → p < size_of g slot → byte u slot p ≡ 255
-    more i t u below ch was p from short =
-        let same : (sectors_of g slot - (i + 1)) * g.sector ≡ (sectors_of g slot - 1 - i) * g.sector = ap (λ n. n * g.sector) (omega arith) in
-        elim (cases_lt p ((sectors_of g slot - i) * g.sector)) [
-          | inl low ↦ erased_here g slot i t u p ch (omega (arith, same, from)) (omega (arith, low, next_sector i below))
-          | inr high ↦ erased_still g slot i t u p ch (was p high short)
-        ]
+    more i t u below ch was p from short = grind (arith, cases_lt, erased_here, next_sector, erased_still)
 
 -- A write in pieces of one unit: what it changes is what one write of all the bytes changes.
 

@@ -1,19 +1,18 @@
 -- The life law.
-use Rattle.std.specs.Prelude.{◌≡◌, ◌⊎◌, ℕ, ◌*◌, ◌<◌, ◌≤◌, slice_index, ◌&&◌, ◌-◌, Bool, true, false, if◌then◌else◌, List, [], ◌∷◌, ◌++◌, replicate, Option, Some, None, option_and_then, option_map, refl, length}
+use Rattle.std.specs.Prelude.{◌≡◌, ◌⊎◌, ℕ, ◌*◌, ◌<◌, ◌≤◌, slice_index, ◌-◌, Bool, true, false, if◌then◌else◌, List, [], ◌∷◌, ◌++◌, replicate, Option, Some, None, option_and_then, refl, length}
 use Rattle.std.specs.Int.{div_ceil}
 use Rattle.std.proofs.{Common.{arith, sym, ap, subst, ◌∙◌}, lemmas.Grind.{div_ceil_times}, Math.Nat.{mul-le-mul_right}}
 use Rattle.mc_boot.proofs.{AtRest.{AtRest, next_is}, Images.{HasImage, ImageLaws, SameImage, has_same, same_image}}
-use Rattle.mc_boot.proofs.FromRest.{done_rests, no_trial, rest_law, same_names, set_of}
-use Rattle.mc_boot.specs.{Restart.{confirmed, may_confirm}, Plan.{image_size, PowerOn, power_on, plan}}
-use Rattle.mc_boot.specs.Life.{AreSecondary, Event, Forgets, AllStored, IsDelivered, Leads, LifeLaw, Lives, Moment, NextLaw, OnlyLaw, Predicts, Leaves, asked_of, can_swap, confirmed_by, done_or_fails, is_boot, is_on_trial, resting, device_state, starts_image, cut, boot, store, confirm, mark}
-use Rattle.mc_boot.specs.Outcome.{Report, outcome_of, after, cut_at}
-use Rattle.mc_boot.specs.declared.outcome.BootResult.TheVariants as results
-use Rattle.mc_flash.specs.{Flash.{is_blank, Content, put, with_bytes}, facts.Changes.{Changed, changed, changed_sized, same_content, sized_is}}
+use Rattle.mc_boot.proofs.FromRest.{rest_law}
+use Rattle.mc_boot.specs.{Restart.{confirmed, may_confirm}, Plan.{image_size, power_on, plan}}
+use Rattle.mc_boot.specs.Life.{AreSecondary, Event, Forgets, AllStored, IsDelivered, Leads, LifeLaw, Lives, Moment, NextLaw, OnlyLaw, Predicts, Leaves, asked_of, can_swap, confirmed_by, done_or_fails, is_on_trial, resting, device_state, cut, boot, store, confirm, mark}
+use Rattle.mc_boot.specs.Outcome.{after, cut_at}
+use Rattle.mc_flash.specs.{Flash.{Content, put, with_bytes}, facts.Changes.{Changed, changed, changed_sized, same_content, sized_is}}
 use Rattle.mc_flash.specs.{facts.Layouts.{fits_few}, Geometry.{Geometry, IsLayout, greatest_sectors}, declared.op.Slot.TheVariants.{Primary, Secondary}}
 use Rattle.mc_image.specs.{Image.{IsBytes}, Valid.{Identity, id_of, is_valid}}
 use Rattle.mc_trailer.specs.declared.tables.SwapType.TheVariants as kinds
 use Rattle.mc_trailer.specs.{facts.Fields.{field_kept_beside, reads_image_ok, same_copy_done, written_field}, facts.Places.{field_ends, one_unit_fits}}
-use Rattle.mc_trailer.specs.{Trailer.{bytes_at, one_unit, trailer_of, place, room}, Tables.{is_good, is_set}}
+use Rattle.mc_trailer.specs.{Trailer.{one_unit, trailer_of, place, room}, Tables.{is_good}}
 use Rattle.mc_trailer.specs.declared.places.Field.TheVariants as field
 use Rattle.mc_trailer.specs.declared.tables.Rules.{Rules}
 use Rattle.mc_trailer.specs.declared.trailer.Flag.TheVariants as flags
@@ -29,8 +28,7 @@ rests_delivered g s ok is = record {
   sized = is.sized;
   primary = its_own s.primary is.primary is.valid;
   at_most =
-      let wide = ok.least_sector in
-      let rows : image_size s.primary ≤ div_ceil (image_size s.primary) g.sector * g.sector = (div_ceil_times (image_size s.primary) g.sector (omega (arith, wide))).0 in
+      let rows : image_size s.primary ≤ div_ceil (image_size s.primary) g.sector * g.sector = (div_ceil_times (image_size s.primary) g.sector (omega arith)).0 in
       let most : div_ceil (image_size s.primary) g.sector * g.sector ≤ greatest_sectors g * g.sector = mul-le-mul_right g.sector (fits_few g (image_size s.primary) ok is.fitting) in
       omega (arith, rows, most);
   secondary = λ valid. its_own s.secondary is.secondary valid;
@@ -41,10 +39,6 @@ rests_delivered g s ok is = record {
 rests_stored : (g : Geometry) (s : Content) (bytes : List ℕ) → AtRest g s → AreSecondary g bytes → AtRest g (with_bytes s Secondary bytes)
 unfolding trailer_of
 rests_stored g s bytes rest are = grind arith
-
--- when it confirms itself
-three_hold : (a b c : Bool) → (a && b && c) ≡ true → b ≡ true
-three_hold a b c is = grind (arith, is)
 
 module _ (laws : ImageLaws) (g : Geometry) (ok : IsLayout g) (s : Content) (rest : AtRest g s) where
   -- the image ends before the trailer
@@ -61,9 +55,8 @@ module _ (laws : ImageLaws) (g : Geometry) (ok : IsLayout g) (s : Content) (rest
 
     kept_mark : SameImage s.primary with_mark.primary
     kept_mark =
-        let ends = field_ends g Primary field.ImageOk ok in
         let sized = sized_is g s Primary rest.sized in
-        same_image s.primary with_mark.primary laws rest.primary (omega (arith, before_trailer, ends, sized)) (omega (arith, before_trailer, ends, sized, marks.sizes Primary))
+        same_image s.primary with_mark.primary laws rest.primary (omega (arith, before_trailer, sized)) (omega (arith, before_trailer, sized, marks.sizes Primary))
         (λ i h. marks.before i (omega (arith, h, before_trailer)))
 
     rests_marked : (trailer_of g s Primary).copy_done ≡ flags.Set → AtRest g with_mark
@@ -75,7 +68,7 @@ module _ (laws : ImageLaws) (g : Geometry) (ok : IsLayout g) (s : Content) (rest
           primary = has_same s.primary with_mark.primary rest.primary kept_mark;
           at_most = let at_most = rest.at_most in let same = kept_mark.size in omega (arith, at_most, same);
           secondary = rest.secondary;
-          rest = done_rests (trailer_of g with_mark Primary) copied;
+          rest = rw copied (grind arith);
         }
 
   -- the bytes that a confirmation writes
@@ -88,9 +81,6 @@ module _ (laws : ImageLaws) (g : Geometry) (ok : IsLayout g) (s : Content) (rest
   kept : SameImage s.primary with_ok.primary
   kept = kept_mark (one_unit g 1) (one_unit_fits g 1 field.ImageOk ok)
 
-  rests_with_ok : (trailer_of g s Primary).copy_done ≡ flags.Set → AtRest g with_ok
-  rests_with_ok set = rests_marked (one_unit g 1) (one_unit_fits g 1 field.ImageOk ok) set
-
   -- where it writes
   pub record Written (m : Content) : Type 0 where
     pub rested : AtRest g m
@@ -102,7 +92,7 @@ module _ (laws : ImageLaws) (g : Geometry) (ok : IsLayout g) (s : Content) (rest
 
   written : may_confirm g s ≡ true → Written with_ok
   written may = record {
-    rested = rests_with_ok copied;
+    rested = rests_marked (one_unit g 1) (one_unit_fits g 1 field.ImageOk ok) copied;
     image_ok = reads_image_ok g with_ok Primary 1 (replicate (g.unit - 1) 255) (written_field g s with_ok Primary field.ImageOk (one_unit g 1) changes);
     copy_done = same_copy_done g s with_ok Primary
         (field_kept_beside g s with_ok Primary field.ImageOk field.CopyDone (one_unit g 1) ok changes (one_unit_fits g 1 field.ImageOk ok) (λ same. cc)) ∙ copied;
@@ -112,8 +102,7 @@ module _ (laws : ImageLaws) (g : Geometry) (ok : IsLayout g) (s : Content) (rest
   }
     where
       copied : (trailer_of g s Primary).copy_done ≡ flags.Set
-      copied = set_of (trailer_of g s Primary).copy_done
-          (three_hold (is_good (trailer_of g s Primary).magic) (is_set (trailer_of g s Primary).copy_done) (is_blank (bytes_at s Primary (place g Primary field.ImageOk) g.unit)) may)
+      copied = grind arith
 
   pub confirmed_written : may_confirm g s ≡ true → Written (confirmed g s)
   unfolding confirmed
@@ -121,11 +110,7 @@ module _ (laws : ImageLaws) (g : Geometry) (ok : IsLayout g) (s : Content) (rest
 
   rests_confirmed : AtRest g (confirmed g s)
   unfolding confirmed
-  rests_confirmed = go (may_confirm g s) refl
-    where
-      go : (b : Bool) → may_confirm g s ≡ b → AtRest g (if b then with_ok else s)
-      go true may = (written may).rested
-      go false may = rest
+  rests_confirmed = grind (arith, written)
 
   -- the images stay
   confirmed_primary : id_of (confirmed g s).primary ≡ id_of s.primary
@@ -160,9 +145,6 @@ record Reached (r : Rules) (g : Geometry) (m : Moment) : Type 0 where
 at_rest : (r : Rules) (g : Geometry) (s : Content) (runs : Bool) → AtRest g s → Reached r g (resting s runs)
 at_rest r g s runs rest = record { rest = rest; cuts = []; come = refl; running = λ _. refl }
 
-runs_at_rest : (r : Rules) (g : Geometry) (m : Moment) → Reached r g m → m.runs ≡ true → AtRest g m.content
-runs_at_rest r g m is runs = rw (is.running runs) is.rest
-
 module _ (laws : ImageLaws) (r : Rules) (g : Geometry) (ok : IsLayout g) where
   leads : (m : Moment) (e : Event) (n : Moment) → Reached r g m → Leads r g m e n → Reached r g n
   leads m (cut c) n is to =
@@ -178,9 +160,9 @@ module _ (laws : ImageLaws) (r : Rules) (g : Geometry) (ok : IsLayout g) where
   leads m (store bytes) n is to = grind (arith, rests_stored)
   leads m (mark bytes) n is to =
       rw to.3 (at_rest r g (with_bytes m.content Primary (put m.content.primary (place g Primary field.ImageOk) bytes)) true
-      (rests_marked laws g ok m.content (runs_at_rest r g m is to.0) bytes to.2 (set_of (trailer_of g m.content Primary).copy_done to.1)))
+      (rests_marked laws g ok m.content (rw (is.running to.0) is.rest) bytes to.2 (grind arith)))
   leads m confirm n is to =
-      rw to.1 (at_rest r g (confirmed g m.content) true (rests_confirmed laws g ok m.content (runs_at_rest r g m is to.0)))
+      rw to.1 (at_rest r g (confirmed g m.content) true (rests_confirmed laws g ok m.content (rw (is.running to.0) is.rest)))
 
   lives : (events : List Event) (m n : Moment) → Reached r g m → Lives r g m events n → Reached r g n
   lives [] m n is same = rw same is
@@ -194,12 +176,6 @@ module _ (laws : ImageLaws) (r : Rules) (g : Geometry) (ok : IsLayout g) (s : Co
   unfolding trailer_of
   other_trailer = refl
 
-  -- what is asked for when the trial is over
-  after_trial : (trial good : Bool) → is_good (trailer_of g s Secondary).magic ≡ good
-      → done_or_fails (asked_of r.profile false (trailer_of g s Secondary)) (can_swap g s.secondary)
-      ≡ (if good then done_or_fails (asked_of r.profile trial (trailer_of g s Secondary)) (can_swap g s.secondary) else kinds.None)
-  after_trial trial it good = grind arith
-
   pub predicts : Predicts r g s
   unfolding confirmed
   predicts = record { next = next_is r g ok s rest; confirms = confirms; marks = λ bytes set short. (kept_mark laws g ok s rest bytes short).id }
@@ -208,16 +184,14 @@ module _ (laws : ImageLaws) (r : Rules) (g : Geometry) (ok : IsLayout g) (s : Co
       confirms may =
           let m : Content = with_ok laws g ok s rest in
           let there = written laws g ok s rest may in
-          let over : is_on_trial (trailer_of g m Primary) ≡ false = no_trial (trailer_of g m Primary) there.image_ok in
+          let over : is_on_trial (trailer_of g m Primary) ≡ false = rw there.image_ok (grind arith) in
           let next : (plan (power_on r g m)).kind ≡ (if is_good (trailer_of g s Secondary).magic then (plan (power_on r g s)).kind else kinds.None) =
           next_is r g ok m there.rested
           ∙ ap (λ b. done_or_fails (asked_of r.profile b (trailer_of g m Secondary)) (can_swap g s.secondary)) over
           ∙ ap (λ q. done_or_fails (asked_of r.profile false q) (can_swap g s.secondary)) other_trailer
-          ∙ after_trial (is_on_trial (trailer_of g s Primary)) (is_good (trailer_of g s Secondary).magic) refl
+          ∙ (grind arith)
           ∙ ap (λ k. if is_good (trailer_of g s Secondary).magic then k else kinds.None) (sym (next_is r g ok s rest)) in
-          ap (λ (c : Bool). device_state r g (if c then m else s)) may
-          ∙ same_names (id_of m.primary) (id_of s.primary) (is_on_trial (trailer_of g m Primary)) false (id_of s.secondary) (id_of s.secondary) (plan (power_on r g m)).kind
-          (if is_good (trailer_of g s Secondary).magic then (plan (power_on r g s)).kind else kinds.None) (kept laws g ok s rest).id over refl next
+          grind arith
 
 pub next_law : ImageLaws → (r : Rules) → NextLaw r
 next_law laws r g s runs events m ok delivered lived =
@@ -245,12 +219,12 @@ module _ (laws : ImageLaws) (K : Option Identity → Bool) (r : Rules) (g : Geom
   leads_passes m (mark bytes) n is pass stored to =
       let at : Passes K m.content = rw (is.running to.0) pass in
       rw to.3 (record {
-        primary = ap K (kept_mark laws g ok m.content (runs_at_rest r g m is to.0) bytes to.2).id ∙ at.primary;
+        primary = ap K (kept_mark laws g ok m.content (rw (is.running to.0) is.rest) bytes to.2).id ∙ at.primary;
         secondary = at.secondary;
       })
   leads_passes m confirm n is pass stored to =
       let at : Passes K m.content = rw (is.running to.0) pass in
-      let rest = runs_at_rest r g m is to.0 in
+      let rest : AtRest g m.content = rw (is.running to.0) is.rest in
       rw to.1 (record {
         primary = ap K (confirmed_primary laws g ok m.content rest) ∙ at.primary;
         secondary = ap (λ xs. K (id_of xs)) (confirmed_secondary laws g ok m.content rest) ∙ at.secondary;
@@ -273,16 +247,8 @@ only_law laws r K g s z runs events m ok delivered lived p q stored left =
     let end = rest_law laws r g ok m.rested is.rest m.content is.cuts is.come in
     rw (sym (same_content end.0 z (sym end.1.end ∙ left))) (leaves_passes K r g m.rested m.content end.0 pass end.2.leaves).primary
 
--- the boot leads on
-runs_of : (x : PowerOn) → option_map (λ o. o.result) (outcome_of x) ≡ Some results.Boot → starts_image x ≡ Some true
-runs_of x boots = go (outcome_of x) boots
-  where
-    go : (o : Option Report) → option_map (λ o. o.result) o ≡ Some results.Boot → option_map (λ o. is_boot o.result) o ≡ Some true
-    go None e = absurd cc
-    go (Some o) e = ap (option_map is_boot) e
-
 pub life_law : ImageLaws → (r : Rules) → LifeLaw r
 life_law laws r g s runs events m ok delivered lived =
     let is = lives laws r g ok events (resting s runs) m (at_rest r g s runs (rests_delivered g s ok delivered)) lived in
     let end = rest_law laws r g ok m.rested is.rest m.content is.cuts is.come in
-    (end.0, record { well = end.1; leads = (end.0, true, end.1.end, runs_of (power_on r g m.content) end.1.result, refl); leaves = end.2.leaves })
+    (end.0, record { well = end.1; leads = (end.0, true, end.1.end, grind arith, refl); leaves = end.2.leaves })

@@ -1,9 +1,9 @@
 -- Where operations write, and contents that are alike once sectors are erased.
 use Rattle.std.proofs.{Common.{arith, inl, inr, length-append, subst, sym, ◌∙◌}, lemmas.Bool.{cases_lt}}
 use Rattle.std.proofs.lemmas.List.{get_or_default, length-drop, length-replicate, length-take, same_lists}
-use Rattle.std.specs.List.{AllByRecursion, between}
-use Rattle.std.specs.Prelude.{Bool, List, None, Some, [], drop, false, if◌then◌else◌, length, map, replicate, take, true, ℕ, ◌*◌, ◌+◌, ◌-◌, ◌<◌, ◌∷◌, ◌≡◌, ◌≢◌, ◌≤◌, ◌⊎◌}
-use Rattle.mc_flash.specs.Flash.{Content, IsSized, apply, byte, bytes_of, erased, in_slot, is_blank, programmed, put, sectors_of, with_bytes}
+use Rattle.std.specs.List.{AllByRecursion}
+use Rattle.std.specs.Prelude.{List, Some, [], drop, length, map, replicate, take, ℕ, ◌*◌, ◌+◌, ◌-◌, ◌<◌, ◌∷◌, ◌≡◌, ◌≢◌, ◌≤◌, ◌⊎◌}
+use Rattle.mc_flash.specs.Flash.{Content, IsSized, apply, byte, bytes_of, erased, in_slot, programmed, put, sectors_of, with_bytes}
 use Rattle.mc_flash.specs.{Geometry.{Geometry}, declared.op.Op.{Op}, declared.op.Op.TheVariants.{Copy, Erase, Program}, declared.op.Slot.{Slot}}
 use Rattle.mc_flash.specs.declared.op.Slot.TheVariants.{Primary, Secondary}
 use Rattle.mc_flash.specs.facts.Changes.{Changed, changed, copied, program_changes, program_was_blank, same_content as one_content, sized_is}
@@ -179,18 +179,7 @@ listed_fits g (e ∷ es) s slot index fits (inr listed) = listed_fits g es s slo
 
 changed_outside : (g : Geometry) (es : List Sector) (s t : Content) (slot : Slot) (at : ℕ) (new : List ℕ) (index : ℕ) → Changed s t slot at new → IsListed es slot index
     → index * g.sector ≤ at → at + length new ≤ index * g.sector + g.sector → SameOutside g es s t
-changed_outside g es s t slot at new index ch listed from to = record {
-  bytes = λ o i outside. by o i outside (which_slot o slot);
-  sizes = ch.sizes;
-}
-  where
-    here : (i : ℕ) → (i < index * g.sector) ⊎ (index * g.sector + g.sector ≤ i) → byte t slot i ≡ byte s slot i
-    here i (inl low) = ch.before i (omega (arith, low, from))
-    here i (inr high) = ch.beyond i (omega (arith, high, to))
-
-    by : (o : Slot) (i : ℕ) → IsOutside g es o i → (o ≡ slot) ⊎ (o ≢ slot) → byte t o i ≡ byte s o i
-    by o i outside (inl is) = rw is (here i ((rw is at outside) index listed))
-    by o i outside (inr no_) = ch.other o i no_
+changed_outside g es s t slot at new index ch listed from to = grind arith
 
 short_copy : (s : Content) (from : Slot) (at len : ℕ) → length (copied s from at len) ≤ len
 short_copy s from at len = omega (arith, length-take (at + len - at) (drop at (bytes_of s from)))
@@ -228,12 +217,7 @@ longer_slot : (s : Content) (slot : Slot) (new : List ℕ) → length (bytes_of 
 longer_slot s slot new more o = grind arith
 
 programmed_longer : (s t : Content) (slot : Slot) (at : ℕ) (new : List ℕ) → in_slot s slot (programmed (bytes_of s slot) at new) ≡ Some t → (o : Slot) → length (bytes_of s o) ≤ length (bytes_of t o)
-programmed_longer s t slot at new is o = go (is_blank (between at (at + length new) (bytes_of s slot))) is
-  where
-    go : (b : Bool) → in_slot s slot (if b then Some (put (bytes_of s slot) at new) else None) ≡ Some t → length (bytes_of s o) ≤ length (bytes_of t o)
-    go false none = absurd cc
-    go true some =
-        rw (← one_content _ t some) (longer_slot s slot (put (bytes_of s slot) at new) (longer_put (bytes_of s slot) new at) o)
+programmed_longer s t slot at new is o = grind (arith, longer_slot, longer_put)
 
 pub op_longer : (g : Geometry) (op : Op) (s t : Content) → apply g op s ≡ Some t → (o : Slot) → length (bytes_of s o) ≤ length (bytes_of t o)
 unfolding apply

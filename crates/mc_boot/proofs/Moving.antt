@@ -3,7 +3,7 @@ use Rattle.std.proofs.{Common.{add_assoc, ap, arith, inl, inr, subst, sym, ◌�
 use Rattle.std.proofs.{lemmas.List.{length-replicate, get_or-replicate}, lemmas.List.Edits.{get_or-between, length-between}}
 use Rattle.std.specs.{List.{between, range_with_len}, Prelude.{List, Some, [], length, map, refl, slice_get, ℕ, ◌*◌, ◌+◌, ◌-◌, ◌/◌, ◌<◌, ◌∷◌, ◌≡◌, ◌≤◌, ◌⊎◌}}
 use Rattle.mc_boot.proofs.{Courses.{can_chunk}, Keeps.{Keeps, keeps_append, keeps_range}}
-use Rattle.mc_boot.proofs.Transfers.{Fits, Held, fits_at, held_after, held_at, held_begin, held_here, held_next, held_there, same_transfer}
+use Rattle.mc_boot.proofs.Transfers.{Fits, Held, fits_at, held_after, held_at, held_begin, held_here, held_next, same_transfer}
 use Rattle.mc_boot.proofs.Meets.{which_slot}
 use Rattle.mc_boot.specs.{Boot.{IsInside}, Plan.{copy_of, entry_of, steps, transfers}, declared.transfer.Transfer.{Transfer}}
 use Rattle.mc_flash.specs.{Flash.{Content, IsSized, apply, byte, bytes_of, sectors_of}, Geometry.{Geometry, IsLayout, greatest_sectors}}
@@ -47,7 +47,6 @@ after_copy g s t u x c inside room there so ch = record {
   done = λ i below. elim (cases_lt i (c * g.chunk)) [
     | inl low ↦ ch.before (x.to_sector * g.sector + i) (omega (arith, low)) ∙ so.done i low
     | inr high ↦
-        let j = i - c * g.chunk in
         let short : i - c * g.chunk < g.chunk = omega (arith, below, high) in
         ap (byte u x.to) (omega (arith, high))
         ∙ ch.inside (i - c * g.chunk) (omega (arith, short, len))
@@ -201,7 +200,7 @@ data_step g n start k s u x ok at_most at data_ so = record {
         ∙ data_.held o i m below short (λ y there slot sector.
         let same : x ≡ y = same_transfer x y (sym at ∙ there) in
         away (slot ∙ ap (λ (z : Transfer). z.to) (sym same)) (sector ∙ ap (λ (z : Transfer). z.to_sector) (sym same)))
-        ∙ ap (λ (h : Slot × ℕ). byte_held g start h m) (sym (held_there (held_at g n k) x o i away))
+        ∙ ap (λ (h : Slot × ℕ). byte_held g start h m) (sym (grind arith))
 
     target : (m : ℕ) → m < g.sector → byte_in g u x.to x.to_sector m ≡ byte_held g start (held_after (held_at g n k) x x.to x.to_sector) m
     target m short =
@@ -210,11 +209,4 @@ data_step g n start k s u x ok at_most at data_ so = record {
         ∙ ap (λ (h : Slot × ℕ). byte_held g start h m) (sym (held_here (held_at g n k) x))
 
     index : (o : Slot) (i m : ℕ) → i < data_sectors g o → m < g.sector → byte_in g u o i m ≡ byte_held g start (held_after (held_at g n k) x o i) m
-    index o i m below short = elim (which_slot o x.to) [
-      | inr other ↦ elsewhere o i m below short (λ slot sector. other slot)
-      | inl slot ↦ elim (cases_eq i x.to_sector) [
-        | inr other ↦ elsewhere o i m below short (λ _ sector. other sector)
-        | inl sector ↦
-            rw (slot, sector) (target m short)
-      ]
-    ]
+    index o i m below short = grind (arith, which_slot, elsewhere, cases_eq, target)

@@ -1,19 +1,18 @@
 -- The phases of a swap, the plan of the boot in each, and fields by what is read of them.
-use Rattle.std.proofs.{Common.{ap, arith, inl, inr, sym, ◌∙◌}, lemmas.Bool.Decides.{nat_tests}, lemmas.List.Edits.{get_or-between}}
+use Rattle.std.proofs.{Common.{ap, arith, inl, inr, sym, ◌∙◌}, lemmas.List.Edits.{get_or-between}}
 use Rattle.std.proofs.lemmas.Slice.Eq.{bytes_eq-Decides}
 use Rattle.std.specs.Int.{div_ceil}
-use Rattle.std.specs.Prelude.{Bool, List, Option, Some, [], bytes_eq, false, if◌then◌else◌, is_none, max, refl, replicate, suc, true, zero, ℕ, ◌*◌, ◌+◌, ◌-◌, ◌<◌, ◌==◌, ◌^◌, ◌∷◌, ◌≡◌, ◌≤◌, ◌⊎◌, ◌≢◌}
+use Rattle.std.specs.Prelude.{Bool, List, Option, Some, [], false, if◌then◌else◌, is_none, max, refl, replicate, suc, true, zero, ℕ, ◌*◌, ◌+◌, ◌-◌, ◌<◌, ◌==◌, ◌^◌, ◌∷◌, ◌≡◌, ◌≤◌, ◌⊎◌}
 use Rattle.mc_boot.proofs.{Images.{HasImage, ImageLaws}, Moving.{Data}, Plans.{plan_new, plan_resumed}}
 use Rattle.mc_boot.proofs.Transfers.{Entries, entries_last, entries_not, left_at, other_number}
-use Rattle.mc_boot.specs.Plan.{Plan, PowerOn, again, confirms, first_left, image_size, images_of, is_test, new_list, new_plan, new_swap, nothing, number_of, plan, resumed_list, resumed_plan}
+use Rattle.mc_boot.specs.Plan.{Plan, PowerOn, again, confirms, first_left, image_size, images_of, is_test, new_list, new_plan, new_swap, nothing, number_of, plan, resumed_list}
 use Rattle.mc_boot.specs.{Restart.{forgets_reverts}, declared.image.Images.{Images}}
-use Rattle.mc_flash.specs.{Flash.{Content, IsSized, byte, is_blank}, Geometry.{Geometry, IsLayout, greatest_sectors, in_pieces}, declared.flash.Grain.{Grain}}
-use Rattle.mc_flash.specs.{declared.op.Slot.{Slot}, declared.op.Slot.TheVariants.{Primary, Secondary}, facts.Changes.{sized_is}}
+use Rattle.mc_flash.specs.{Flash.{Content, IsSized, byte}, Geometry.{Geometry, IsLayout, greatest_sectors, in_pieces}, declared.flash.Grain.{Grain}}
+use Rattle.mc_flash.specs.{declared.op.Slot.{Slot}, declared.op.Slot.TheVariants.{Primary, Secondary}}
 use Rattle.mc_image.specs.Valid.{is_valid}
-use Rattle.mc_trailer.specs.Tables.{is_resumed, resumes, reverts_at, swap_type, table_of}
-use Rattle.mc_trailer.specs.{Trailer.{flag_of, highest_entry, magic_bytes, magic_of, one_unit, place, size_bytes, trailer_of}, declared.places.Field.{Field}}
+use Rattle.mc_trailer.specs.Tables.{is_resumed, reverts_at, table_of}
+use Rattle.mc_trailer.specs.{Trailer.{highest_entry, magic_bytes, magic_of, one_unit, place, size_bytes, trailer_of}, declared.places.Field.{Field}}
 use Rattle.mc_trailer.specs.{declared.tables.Profile.{Profile}, declared.tables.SwapType.{SwapType}, declared.trailer.Flag.{Flag}}
-use Rattle.mc_trailer.specs.{declared.trailer.Magic.{Magic}, declared.trailer.Trailer.{Trailer}}
 use Rattle.mc_trailer.specs.facts.Fields.{FieldIs, FieldsAre, blank_fields, field_as, reads_absent, reads_copy_done, reads_good, reads_image_ok, reads_info, reads_not_good, reads_size}
 use Rattle.mc_trailer.specs.declared.places.Field.TheVariants as field
 use Rattle.mc_trailer.specs.declared.trailer.Flag.TheVariants as flags
@@ -128,26 +127,6 @@ runs R g start size n b kind k s of most is = inr (inr (kind, k, of, most, is))
 
 -- The plan of each phase.
 
--- the tests of two trailers
-resumes_when : (p q : Trailer) → p.magic ≡ magics.Good → p.copy_done ≡ flags.Unset → q.magic ≡ magics.Unset → resumes p q ≡ true
-resumes_when p q good unset absent = rw good (rw unset (rw absent refl))
-
-not_when_asked : (p q : Trailer) → q.magic ≡ magics.Good → resumes p q ≡ false
-not_when_asked p q good = rw good (grind arith)
-
-pub not_when_done : (p q : Trailer) → p.copy_done ≡ flags.Set → resumes p q ≡ false
-not_when_done p q set = rw set (grind arith)
-
-tests_when : (profile : Profile) (p q : Trailer) → q.magic ≡ magics.Good → q.image_ok ≡ flags.Unset → swap_type profile p q ≡ kinds.Test
-tests_when profile p q good unset = rw good (rw unset refl)
-
-stays_when : (profile : Profile) (p q : Trailer) → q.magic ≡ magics.Good → q.image_ok ≡ flags.Set → swap_type profile p q ≡ kinds.Perm
-stays_when profile p q good set = rw good (rw set refl)
-
-pub reverts_when : (profile : Profile) (p q : Trailer) → p.magic ≡ magics.Good → reverts_at profile q.magic ≡ true → p.image_ok ≡ flags.Unset → p.copy_done ≡ flags.Set
-    → swap_type profile p q ≡ kinds.Revert
-reverts_when profile p q good reverts unset set = grind arith
-
 -- a plan where the boot does not resume
 pub new_is : (x : PowerOn) (kind : SwapType) (p : Plan) → is_resumed x.geometry x.content ≡ false → table_of x.rules.profile x.geometry x.content ≡ kind
     → new_plan x.rules.grain x.geometry (images_of x.content) kind ≡ p → plan x ≡ p
@@ -156,18 +135,9 @@ new_is x kind p not_so of is = plan_new x not_so ∙ ap (new_plan x.rules.grain 
 pub swap_of : (b : Bool) (kind : SwapType) → IsSwapOf b kind → is_test kind ≡ b
 swap_of b kind of = grind arith
 
--- a swap is no panic
-pub no_panic : (b : Bool) (kind : SwapType) → IsSwapOf b kind → kind ≢ kinds.Panic
-no_panic b kind of same = rw same at of
-
 -- the plan of a swap that runs
 abbrev pub running : Geometry → SwapType → ℕ → ℕ → Bool → Plan
 running g kind n k erases = record { kind = kind; sectors = n; list = resumed_list g n k erases false }
-
-running_is : (c : Grain) (g : Geometry) (p : Trailer) (highest : Option ℕ) (b : Bool) (kind : SwapType) (size n k : ℕ) → IsSwapOf b kind → p.swap_info ≡ number_of kind → p.swap_size ≡ size
-    → div_ceil size g.sector ≡ n → 0 < n → n ≤ greatest_sectors g
-    → first_left g n highest ≡ Some k → is_none highest ≡ (k == 0) → confirms kind p.image_ok ≡ false → resumed_plan c g p highest ≡ running (in_pieces c g) kind n k (k == 0)
-running_is c g p highest b kind size n k of info sized_is count some at_most first any settled = grind arith
 
 confirms_not : (b : Bool) (kind : SwapType) (image_ok : Flag) → is_test kind ≡ b → (b ≡ false → image_ok ≡ flags.Set) → confirms kind image_ok ≡ false
 confirms_not it kind image_ok of set = grind arith
@@ -200,8 +170,8 @@ plan_under x size n b kind k s w of most u =
     let first = found x.geometry n k s w.ok sized w.at_most most u.entries in
     let settled = confirms_not b kind (trailer_of x.geometry s Primary).image_ok (swap_of b kind of)
     (λ stays. image_ok_is x.geometry s kind false (swap_of b kind of ∙ stays) (u.primary field.ImageOk)) in
-    plan_resumed (again x s) (resumes_when (trailer_of x.geometry s Primary) (trailer_of x.geometry s Secondary) good unset absent)
-    ∙ running_is x.rules.grain x.geometry (trailer_of x.geometry s Primary) (highest_entry x.geometry s) b kind size n k of info sized_is w.count w.some w.at_most first.0 first.1 settled
+    plan_resumed (again x s) (rw good (rw unset (rw absent refl)))
+    ∙ (grind (arith, w.count, w.some, w.at_most, first.0, first.1))
 
 -- the plan of a swap from its start
 abbrev pub starting : Grain → Geometry → SwapType → ℕ → ℕ → Plan
@@ -228,12 +198,12 @@ pub plan_asked : (x : PowerOn) (size n : ℕ) (b : Bool) (s : Content) → Swap 
     → plan (again x s) ≡ starting x.rules.grain x.geometry (kind_asked b) size n
 plan_asked x size n b s w sees u =
     let good = reads_good x.geometry s Secondary w.ok u.data_.sized (u.secondary field.Magic) in
-    new_is (again x s) (kind_asked b) (starting x.rules.grain x.geometry (kind_asked b) size n) (not_when_asked (trailer_of x.geometry s Primary) (trailer_of x.geometry s Secondary) good)
+    new_is (again x s) (kind_asked b) (starting x.rules.grain x.geometry (kind_asked b) size n) (rw good (grind arith))
     (table b good u.secondary) (swap b)
   where
     table : (e : Bool) → (trailer_of x.geometry s Secondary).magic ≡ magics.Good → FieldsAre x.geometry s Secondary (asked e) → table_of x.rules.profile x.geometry s ≡ kind_asked e
-    table true good are = tests_when x.rules.profile (trailer_of x.geometry s Primary) (trailer_of x.geometry s Secondary) good (reads_image_ok x.geometry s Secondary 255 [] (are field.ImageOk))
-    table false good are = stays_when x.rules.profile (trailer_of x.geometry s Primary) (trailer_of x.geometry s Secondary) good (reads_image_ok x.geometry s Secondary 1 [] (are field.ImageOk))
+    table true good are = rw good (rw (reads_image_ok x.geometry s Secondary 255 [] (are field.ImageOk)) refl)
+    table false good are = rw good (rw (reads_image_ok x.geometry s Secondary 1 [] (are field.ImageOk)) refl)
 
     swap : (e : Bool) → new_plan x.rules.grain x.geometry (images_of s) (kind_asked e) ≡ starting x.rules.grain x.geometry (kind_asked e) size n
     swap true = new_swap_is x.rules.grain x.geometry (images_of s) kinds.Test size n sees.valid sees.larger w.count w.at_most
@@ -244,8 +214,8 @@ pub plan_tested : (x : PowerOn) (size n : ℕ) → (trailer_of x.geometry x.cont
     → (trailer_of x.geometry x.content Primary).copy_done ≡ flags.Set → reverts_at x.rules.profile (trailer_of x.geometry x.content Secondary).magic ≡ true
     → SeesImages x.content size → div_ceil size x.geometry.sector ≡ n → n ≤ greatest_sectors x.geometry → plan x ≡ starting x.rules.grain x.geometry kinds.Revert size n
 plan_tested x size n good unset done reverts sees count at_most =
-    new_is x kinds.Revert (starting x.rules.grain x.geometry kinds.Revert size n) (not_when_done (trailer_of x.geometry x.content Primary) (trailer_of x.geometry x.content Secondary) done)
-    (reverts_when x.rules.profile (trailer_of x.geometry x.content Primary) (trailer_of x.geometry x.content Secondary) good reverts unset done)
+    new_is x kinds.Revert (starting x.rules.grain x.geometry kinds.Revert size n) (rw done (grind arith))
+    (grind arith)
     (new_swap_is x.rules.grain x.geometry (images_of x.content) kinds.Revert size n sees.valid sees.larger count at_most)
 
 pub plan_settled : (x : PowerOn) → (trailer_of x.geometry x.content Primary).copy_done ≡ flags.Set → (trailer_of x.geometry x.content Secondary).magic ≡ magics.Unset
@@ -256,44 +226,26 @@ plan_settled x done absent set = grind (arith, new_is)
 pub plan_none : (x : PowerOn) → (trailer_of x.geometry x.content Primary).magic ≡ magics.Unset → (trailer_of x.geometry x.content Secondary).magic ≡ magics.Unset → plan x ≡ nothing kinds.None
 plan_none x p q = grind (arith, new_is)
 
--- an unset magic is one that either profile reverts at, and any that is not good is one of the second
-pub absent_reverts : (profile : Profile) (m : Magic) → m ≡ magics.Unset → reverts_at profile m ≡ true
-absent_reverts it m is = grind arith
-
 pub magic_unset_reverts : (c : Grain) (profile : Profile) (g : Geometry) (s : Content) → forgets_reverts c profile ≡ false → IsLayout g → IsSized g s → MagicUnset c g s
     → reverts_at profile (trailer_of g s Secondary).magic ≡ true
 magic_unset_reverts it profile g s keeps ok sized magic_unset = grind (arith, reads_absent, reads_not_good)
 
 -- The bytes of a trailer's fields, by what is read of them.
 
--- a magic
-good_only : (c d : Bool) → (if c then magics.Good else if d then magics.Unset else magics.Bad) ≡ magics.Good → c ≡ true
-good_only it d is = grind arith
-
 good_is : (xs : List ℕ) → magic_of xs ≡ magics.Good → xs ≡ magic_bytes
-good_is xs is = (bytes_eq-Decides xs magic_bytes).0 (good_only (bytes_eq xs magic_bytes) (is_blank xs) is)
+good_is xs is = (bytes_eq-Decides xs magic_bytes).0 (grind arith)
 
 pub good_bytes : (g : Geometry) (s : Content) (slot : Slot) → (trailer_of g s slot).magic ≡ magics.Good → FieldIs g s slot field.Magic magic_bytes
 unfolding trailer_of
 good_bytes g s slot is i short within = grind (arith, get_or-between, good_is)
-
--- a flag
-pub set_is : (b : ℕ) → flag_of b ≡ flags.Set → b ≡ 1
-set_is b set = grind (arith, nat_tests, set)
-
-pub unset_is : (b : ℕ) → flag_of b ≡ flags.Unset → b ≡ 255
-unset_is b unset = grind (arith, nat_tests, unset)
-
-one_byte : (g : Geometry) (s : Content) (slot : Slot) (f : Field) (value : ℕ) → byte s slot (place g slot f) ≡ value → FieldIs g s slot f (value ∷ [])
-one_byte g s slot f value is i short within = grind arith
 
 -- The secondary asks for a test or a swap that stays.
 pub asked_from : (g : Geometry) (s : Content) (b : Bool) → (trailer_of g s Secondary).magic ≡ magics.Good → (trailer_of g s Secondary).image_ok ≡ (if b then flags.Unset else flags.Set)
     → FieldsAre g s Secondary (asked b)
 unfolding trailer_of
 asked_from g s b good flag field.Magic i short within = good_bytes g s Secondary good i short within
-asked_from g s true good flag field.ImageOk i short within = one_byte g s Secondary field.ImageOk 255 (unset_is (byte s Secondary (place g Secondary field.ImageOk)) flag) i short within
-asked_from g s false good flag field.ImageOk i short within = one_byte g s Secondary field.ImageOk 1 (set_is (byte s Secondary (place g Secondary field.ImageOk)) flag) i short within
+asked_from g s true good flag field.ImageOk i short within = grind arith
+asked_from g s false good flag field.ImageOk i short within = grind arith
 asked_from g s b good flag f i short within = absurd (omega (arith, short))
 
 -- The primary's image is on trial.
@@ -301,6 +253,6 @@ pub tested_from : (g : Geometry) (s : Content) → (trailer_of g s Primary).magi
     → FieldsAre g s Primary tested
 unfolding trailer_of
 tested_from g s good unset set field.Magic i short within = good_bytes g s Primary good i short within
-tested_from g s good unset set field.ImageOk i short within = one_byte g s Primary field.ImageOk 255 (unset_is (byte s Primary (place g Primary field.ImageOk)) unset) i short within
-tested_from g s good unset set field.CopyDone i short within = one_byte g s Primary field.CopyDone 1 (set_is (byte s Primary (place g Primary field.CopyDone)) set) i short within
+tested_from g s good unset set field.ImageOk i short within = grind arith
+tested_from g s good unset set field.CopyDone i short within = grind arith
 tested_from g s good unset set f i short within = absurd (omega (arith, short))

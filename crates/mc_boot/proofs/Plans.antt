@@ -1,9 +1,9 @@
 -- Plans, the steps of a boot through them, and what it reports at their end.
-use Rattle.std.proofs.Common.{Fits, add-zero, ap, arith, subst, sym, w32, ◌∙◌}
+use Rattle.std.proofs.Common.{Fits, add-zero, arith, subst, sym, w32}
 use Rattle.std.specs.Option.{is_some}
-use Rattle.std.specs.Prelude.{Bool, Err, List, Ok, Option, Result, Some, [], drop, false, is_none, not, option_map, refl, slice_get, true, ℕ, ◌*◌, ◌+◌, ◌<◌, ◌∷◌, ◌≡◌, ◌≤◌}
+use Rattle.std.specs.Prelude.{Bool, Err, List, Ok, Option, Result, Some, false, is_none, not, option_map, slice_get, true, ℕ, ◌*◌, ◌+◌, ◌<◌, ◌∷◌, ◌≡◌, ◌≤◌}
 use Rattle.mc_boot.proofs.{Courses.{drop_at_place, get_dropped}, Images.{valid_held}}
-use Rattle.mc_boot.specs.{Boot.{Progress, Steps, StepsAlong, Turns, begun, progress, to_come, whole_list}, Outcome.{report, result_of, shown}}
+use Rattle.mc_boot.specs.{Boot.{Progress, Steps, StepsAlong, Turns, begun, progress, to_come}, Outcome.{report, result_of, shown}}
 use Rattle.mc_boot.specs.Plan.{PowerOn, confirms, first_left, identity_of, images_of, new_plan, plan, plan_with, resumed_list, resumed_plan, resumed_swap}
 use Rattle.mc_boot.specs.{declared.boot.Boot.{Boot}, declared.course.Course.{Course}, declared.image.ImageId.{ImageId}}
 use Rattle.mc_boot.specs.declared.outcome.BootResult.{BootResult}
@@ -59,25 +59,11 @@ module _ (b : Boot) (op : Op) (old new : Seen) (head : slice_get (to_come b) 0 �
   pub next_step : Does op old (Ok tt) new
       → Steps (progress b) old (Ok tt) (progress (record { rules = b.rules; kind = b.kind; course = b.course; done = b.done + 1; faulted = b.faulted })) new
   unfolding boot_at
-  next_step does = at b.rules b.kind b.course b.done b.faulted head
-    where
-      at : (rules : Rules) (kind : SwapType) (course : Option Course) (done : ℕ) (faulted : Bool) → slice_get (to_come (boot_at rules kind course done faulted)) 0 ≡ Some op
-          → Steps (progress (boot_at rules kind course done faulted)) old (Ok tt) (progress (boot_at rules kind course (done + 1) faulted)) new
-      at rules kind course done true first = absurd cc
-      at rules kind course done false first =
-          let here : slice_get (whole_list course) done ≡ Some op = ap (slice_get (whole_list course)) (sym (add-zero done)) ∙ sym (get_dropped done (whole_list course) 0) ∙ first in
-          along _ _ op (drop (done + 1) (whole_list course)) old new (Ok tt) (drop_at_place (whole_list course) done op here) refl does
+  next_step does = grind (arith, boot_at, add-zero, get_dropped, along, drop_at_place)
 
   pub refused_step : Does op old (Err errors.NotErased) new
       → Steps (progress b) old (Err errors.NotErased) (progress (record { rules = b.rules; kind = b.kind; course = b.course; done = b.done; faulted = true })) new
-  refused_step does = at (to_come b) refl head
-    where
-      at : (ops : List Op) → to_come b ≡ ops → slice_get ops 0 ≡ Some op
-          → Steps (progress b) old (Err errors.NotErased) (progress (record { rules = b.rules; kind = b.kind; course = b.course; done = b.done; faulted = true })) new
-      at [] is first = absurd cc
-      at (x ∷ rest) is first =
-          let same : x ≡ op = cc in
-          along (progress b) _ op rest old new (Err errors.NotErased) (is ∙ ap (λ (y : Op). y ∷ rest) same) refl does
+  refused_step does = grind arith
 
 -- What is reported of a boot, by what was read of the slots.
 

@@ -1,9 +1,9 @@
 -- The restart theorem, its second round, and the plan of a test all of whose operations happen.
 use Rattle.std.proofs.{Common.{ap, arith, inl, inr, subst, sym, ◌∙◌}, Math.Nat.{mul-le-mul_right}, lemmas.Bool.Decides.{nat_tests}}
 use Rattle.std.proofs.lemmas.Grind.{div_ceil_times}
-use Rattle.std.specs.{Int.{div_ceil}, Prelude.{Bool, List, Some, [], false, if◌then◌else◌, length, max, refl, take, true, ℕ, ◌&&◌, ◌*◌, ◌≡◌, ◌≢◌, ◌≤◌, ◌⊎◌}}
+use Rattle.std.specs.{Int.{div_ceil}, Prelude.{Bool, List, Some, [], false, if◌then◌else◌, length, max, refl, take, true, ℕ, ◌*◌, ◌≡◌, ◌≢◌, ◌≤◌, ◌⊎◌}}
 use Rattle.mc_boot.proofs.{AtRest.{AtRest, both_true, next_is, none_idle, swap_sectors}, DeliveredStarts.{starts_law, test_delivered}}
-use Rattle.mc_boot.proofs.FromRest.{rest_law, settled_stays, unconfirmed, unmarked_stays}
+use Rattle.mc_boot.proofs.FromRest.{rest_law, settled_stays, unmarked_stays}
 use Rattle.mc_boot.proofs.{Images.{ImageLaws, SameImage, image_prefix, same_prefixes, same_then}, InPieces.{asked_pieces}, Joins.{happens_few}}
 use Rattle.mc_boot.proofs.{Keeps.{Keeps, boots_so, ends, place_beyond_data, restart}, LifeProof.{Written, confirmed_written, predicts, rests_delivered}}
 use Rattle.mc_boot.proofs.Phases.{asked, larger_size, plan_asked, plan_none, sees_images, starting}
@@ -15,8 +15,8 @@ use Rattle.mc_boot.specs.{WholeSwap.{MakesSwap}, declared.kind.Kind.{Kind}, fact
 use Rattle.mc_flash.specs.{Flash.{Content}, Geometry.{Geometry, IsLayout, fits, greatest_sectors, in_pieces}, declared.flash.Grain.{Grain}, declared.op.Op.{Op}}
 use Rattle.mc_flash.specs.{declared.op.Slot.TheVariants.{Primary, Secondary}, facts.Changes.{same_content, sized_is}, facts.Layouts.{data_end, image_is_data}}
 use Rattle.mc_image.specs.Valid.{is_valid}
-use Rattle.mc_trailer.specs.{Tables.{is_good, is_set, is_unset, reverts_at}, Trailer.{place, trailer_of}, declared.tables.Profile.{Profile}}
-use Rattle.mc_trailer.specs.{declared.tables.Rules.{Rules}, declared.tables.SwapType.{SwapType}, declared.trailer.Flag.{Flag}, declared.trailer.Magic.{Magic}}
+use Rattle.mc_trailer.specs.{Tables.{is_good}, Trailer.{place, trailer_of}, declared.tables.Profile.{Profile}}
+use Rattle.mc_trailer.specs.{declared.tables.Rules.{Rules}, declared.tables.SwapType.{SwapType}}
 use Rattle.mc_trailer.specs.{declared.trailer.Trailer.{Trailer}, facts.Fields.{FieldsAre, reads_absent, reads_good, reads_image_ok}, facts.Places.{field_ends}}
 use lib.Seq.{take-take}
 use Rattle.mc_trailer.specs.declared.places.Field.TheVariants as field
@@ -82,8 +82,7 @@ module _ (laws : ImageLaws) (r : Rules) (g : Geometry) (a b : List ℕ) (ok : Is
       → SameImage b z.primary × SameImage a z.secondary
   crossed_images kind s z some made begins are =
       let count = (swap_sectors (power_on r g s) kind begins.rest.rest begins.next some made).0 in
-      let wide = ok.least_sector in
-      let most : larger_size s ≤ count_of g s * g.sector = (div_ceil_times (larger_size s) g.sector (omega (arith, wide))).0 in
+      let most : larger_size s ≤ count_of g s * g.sector = (div_ceil_times (larger_size s) g.sector (omega arith)).0 in
       let rows : (plan (power_on r g s)).sectors * g.sector ≡ count_of g s * g.sector = ap (λ n. n * g.sector) count in (
         same_in_prefix g b s.secondary z.primary ((plan (power_on r g s)).sectors * g.sector) laws at_b begins.secondary (omega (arith, most, rows)) are.primary,
         same_in_prefix g a s.primary z.secondary ((plan (power_on r g s)).sectors * g.sector) laws at_a begins.primary (omega (arith, most, rows)) are.secondary,
@@ -111,16 +110,7 @@ module _ (laws : ImageLaws) (r : Rules) (g : Geometry) (a b : List ℕ) (ok : Is
         by z well (inl l) =
             let bytes = done z (rw begins.next at l.bytes) in
             let held = crossed_images next s z some made begins bytes.0 in
-            record {
-              end = well.end;
-              whole = well.whole;
-              not_panic = well.not_panic;
-              boots = well.valid;
-              result = well.result;
-              primary = rw is_named (held_whole b z.primary held.0);
-              secondary = rw is_other (held_whole a z.secondary held.1);
-              swapped = bytes.1;
-            }
+            grind arith
         by z well (inr f) = let e : true ≡ false = sym f.rules ∙ keeps (sym begins.next ∙ f.next) in absurd cc
 
     pub revert_law : (forgets_reverts r.grain r.profile ≡ false) → Begins r g kinds.Revert a b s → (z : Content) × EndsIn (power_on r g s) starts.Revert a b u z
@@ -161,20 +151,10 @@ module _ (laws : ImageLaws) (r : Rules) (g : Geometry) (a b : List ℕ) (ok : Is
         secondary = secondary_image g a b (placed g (image_bytes a) (image_bytes b)) laws ok at_b h;
       })
 
--- what is asked for, by the two fields that say so
-abbrev pub asked_at : Profile → Bool → Magic → Flag → SwapType
-asked_at profile trial m f =
-    if is_good m then (if is_unset f then kinds.Test else if is_set f then kinds.Perm else kinds.None) else if trial && reverts_at profile m then kinds.Revert else kinds.None
-
 -- What the first profile takes back, each does.
 reverts_too : (profile : Profile) (trial can : Bool) (q : Trailer) → done_or_fails (asked_of profiles.One trial q) can ≡ kinds.Revert
     → done_or_fails (asked_of profile trial q) can ≡ kinds.Revert
-reverts_too profile trial can q is = by profile q.magic q.image_ok is
-  where
-    by : (profile : Profile) (m : Magic) (f : Flag) → done_or_fails (asked_at profiles.One trial m f) can ≡ kinds.Revert → done_or_fails (asked_at profile trial m f) can ≡ kinds.Revert
-    by profiles.One m f is = is
-    by profiles.Two magics.Bad f is = grind (arith, is)
-    by profiles.Two m f is = is
+reverts_too profile trial can q is = grind arith
 
 module _ (laws : ImageLaws) (r : Rules) (g : Geometry) (a b : List ℕ) (ok : IsLayout g) (at_a : BeginsImage g a) (at_b : BeginsImage g b) where
   -- What a test of the exchanged images leaves, by whatever rules, waits to be taken back.
@@ -251,7 +231,7 @@ module _ (r : Rules) (g : Geometry) (kind : Kind) (confirms : Bool) (a b : List 
       (occurs : after (power_on r g (confirmed_if confirms g x)) second ≡ Some u) where
     still_round : is_valid x.primary ≡ true → Holds (named kind a b) x.primary → Holds (other kind a b) x.secondary → IsSwapped (power_on r g s) kind x x → (z : Content) × IsStill z
     still_round valid one two swapped =
-        let same = unconfirmed confirms g x stays in
+        let same : confirmed_if confirms g x ≡ x = grind arith in
         let there = uncut (power_on r g x) idle u second (ap (λ m. after (power_on r g m) second) (sym same) ∙ occurs) in
         (x, (rw there (idle_ends (power_on r g x) idle kind a b s none valid one two swapped), record { idle = idle; uncut = there }, same))
 
@@ -263,16 +243,6 @@ module _ (r : Rules) (g : Geometry) (kind : Kind) (confirms : Bool) (a b : List 
       let stays = settled_stays (power_on r g y) ok settled in
       let same : y ≡ x = same_content y x (sym e.end ∙ left) in
       rw (← same) (still_round r g kind confirms a b s y u second settled.idle settled.next stays (rw (← same) at occurs) e.boots e.primary e.secondary swapped)
-
--- a flash that asks for a revert asks for nothing else
-no_request : (profile : Profile) (trial can : Bool) (q : Trailer) → done_or_fails (asked_of profile trial q) can ≡ kinds.Revert → is_good q.magic ≡ false
-no_request profile trial can q is = by q.magic q.image_ok can is
-  where
-    by : (m : Magic) (f : Flag) (can : Bool) → done_or_fails (asked_at profile trial m f) can ≡ kinds.Revert → is_good m ≡ false
-    by magics.Good flags.Unset true is = absurd cc
-    by magics.Good flags.Set true is = absurd cc
-    by magics.Good f can is = absurd cc
-    by m f can is = refl
 
 module _ (laws : ImageLaws) (r : Rules) (g : Geometry) (a b : List ℕ) (ok : IsLayout g) (at_a : BeginsImage g a) (at_b : BeginsImage g b) where
   -- No swap: it stays as it was placed.
@@ -317,11 +287,10 @@ module _ (laws : ImageLaws) (r : Rules) (g : Geometry) (a b : List ℕ) (ok : Is
         × EndsAgain (power_on r g s) starts.Test false a b x u z
     left_round u second keeps occurs =
         let end = revert_law laws r g b a ok at_b at_a x u second occurs keeps again_begins in
-        let here = begins.primary.size in
         let there = begins.secondary.size in
         let now_ = again_begins.primary.size in
         let below = again_begins.secondary.size in
-        let larger : larger_size x ≡ larger_size s = omega (arith, here, there, now_, below) in
+        let larger : larger_size x ≡ larger_size s = omega (arith, there, now_, below) in
         let same : (plan (power_on r g x)).sectors ≡ (plan (power_on r g s)).sectors =
         (swap_sectors (power_on r g x) kinds.Revert round.rest.rest round.tested.next (λ e. cc) (λ e. cc)).0 ∙ ap (λ n. div_ceil n g.sector) larger ∙ sym sectors.0 in
         (end.0, (end.1, twice g (plan (power_on r g s)).sectors s x end.0 round.exchange (rw same at end.1.swapped.0)))
@@ -333,7 +302,7 @@ module _ (laws : ImageLaws) (r : Rules) (g : Geometry) (a b : List ℕ) (ok : Is
     settled : IsSettled (power_on r g (confirmed g x))
     settled =
         let predicts_next = predicts laws r g ok x round.rest in
-        let asked_not = no_request r.profile (is_on_trial (trailer_of g x Primary)) (can_swap g x.secondary) (trailer_of g x Secondary) (sym predicts_next.next ∙ round.tested.next) in
+        let asked_not : is_good (trailer_of g x Secondary).magic ≡ false = grind (arith, sym predicts_next.next ∙ round.tested.next) in
         let next : (plan (power_on r g (confirmed g x))).kind ≡ kinds.None =
         ap (λ (d : DeviceState). d.next) (predicts_next.confirms round.may) ∙ ap (λ (c : Bool). if c then (plan (power_on r g x)).kind else kinds.None) asked_not in
         record { image_ok = written_there.image_ok; copy_done = written_there.copy_done; next = next; idle = none_idle (power_on r g (confirmed g x)) written_there.rested.rest next }

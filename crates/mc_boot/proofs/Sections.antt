@@ -1,7 +1,7 @@
 -- A course is its sections, one after the other: how many operations each has, and which is which.
 use Rattle.std.proofs.{Common.{add-one, ap, append-nil, append_assoc, arith, length-append, sym, zero-add, ◌∙◌}, Math.Nat.{mod-add-div', mul-le-mul_right}}
 use Rattle.std.proofs.{lemmas.List.{length-drop}, lemmas.List.FromFn.{length-map-range_with_len}, lemmas.Nat.{mod_below}, lemmas.Option.{slice_get_within}}
-use Rattle.std.specs.Prelude.{Bool, IfSome, List, Option, Some, [], drop, get_or, length, map, max, refl, slice_get, suc, take, false, true, zero, ℕ, ◌∷◌, ◌%◌, ◌*◌, ◌++◌, ◌+◌, ◌-◌, ◌/◌, ◌<◌, ◌≡◌, ◌≤◌}
+use Rattle.std.specs.Prelude.{Bool, IfSome, List, Option, Some, [], drop, get_or, length, map, refl, slice_get, suc, take, false, true, zero, ℕ, ◌∷◌, ◌%◌, ◌*◌, ◌++◌, ◌+◌, ◌-◌, ◌/◌, ◌<◌, ◌≡◌, ◌≤◌}
 use Rattle.mc_boot.specs.Boot.{list_from}
 use Rattle.mc_boot.specs.Plan.{is_revert, new_list, opening_writes, preparation_writes, resumed_list, steps, swap_list, trailer_erase, trailer_erases, transfers, write_count}
 use Rattle.mc_boot.specs.{declared.course.Opening.{Opening}, declared.section.Counted.{Counted}, declared.section.Section.{Section}}
@@ -95,15 +95,7 @@ module _ (c : Grain) (g : Geometry) (n : ℕ) where
 
   module _ (ok : IsLayout g) (fits : n ≤ greatest_sectors g) where
     few_in : (s : Section) → length (ops_in c g n s) ≤ 201332736
-    few_in s = rw (length_in s) (few s)
-      where
-        few : (s : Section) → count_in c g n s ≤ 201332736
-        few Nothing = omega arith
-        few (Erases slot) = omega (arith, few_trailer_sectors g ok)
-        few (Flag slot f value) = omega arith
-        few (Size slot size) = omega (arith, few_units (max g.unit 4) (omega (arith, (small_unit g ok).1)))
-        few (Magic slot) = omega (arith, few_units 16 (omega arith))
-        few (Transfers first) = few_transfers g n first ok fits
+    few_in s = grind (arith, length_in, few_trailer_sectors, few_units, small_unit, few_transfers)
 
     pub few_all : (xs : List Counted) → length (ops_of_all c g n xs) ≤ length xs * 201332736
     few_all [] = omega arith
@@ -112,8 +104,7 @@ module _ (c : Grain) (g : Geometry) (n : ℕ) where
     pub few_list : (o : Opening) (k : ℕ) → k ≡ length (list_from c g n o) → k ≤ 204000000
     few_list o k is =
         let whole : 3 * n * (g.sector / g.chunk + 2) ≤ (3 * n - 0) * (g.sector / g.chunk + 2) = mul-le-mul_right (g.sector / g.chunk + 2) (omega arith) in
-        let size = few_units (max g.unit 4) (omega (arith, (small_unit g ok).1)) in
-        omega (arith, is, whole, few_transfers g n 0 ok fits, course_count g g c n o, few_trailer_sectors g ok, few_units 16 (omega arith), size)
+        grind (arith, few_units, small_unit, few_transfers, course_count, few_trailer_sectors)
 
     pub few_at : (o : Opening) (k : ℕ) (op : Option Op) → op ≡ slice_get (list_from c g n o) k → IfSome op (λ _. k < 204000000)
     few_at o k it is = grind (arith, slice_get_within, few_list)

@@ -6,7 +6,7 @@ use Rattle.mc_flash.specs.{declared.flash.Grain.{Grain}, declared.op.Op.{Op}, de
 use Rattle.mc_boot.specs.{Joins.{IsCut, erases_of, kept_of}, Boot.{IsBootOf, begun, progress, course_list, whole_list}, Outcome.{Report, at, ops_of}}
 use Rattle.mc_boot.specs.{Plan.{plan, PowerOn, again}, inner.Idle.{AllIdleBut, changes_nothing}, SharedTail.{IsSharedTail, index_in_parent}}
 use Rattle.mc_boot.specs.{facts.Run.{come_at}, declared.boot.Boot.{Boot}, declared.course.Course.{Course}, declared.shared_tail.SharedTail.{SharedTail}}
-use Rattle.mc_boot.proofs.{CourseJoins.{begun_list, layout_is, met_joins, sectors_pieces, joins_meet}, Meets.{Fit, Meets, Sector, erase_of}}
+use Rattle.mc_boot.proofs.{CourseJoins.{layout_is, met_joins, sectors_pieces, joins_meet}, Meets.{Fit, Meets, Sector, erase_of}}
 use Rattle.mc_boot.proofs.{Erased.{AreErased, erased_here}, Joins.{Joins, joined}, SharedTails.{among, beyond_erased, fits, late, next_erases, stays}}
 
 -- A sector that is erased lies in its slot, whatever the pieces in which sectors are copied.
@@ -55,16 +55,12 @@ module _ (x : SharedTail) (i : ℕ) where
   placed_over : i < x.erases → x.kept + x.erases < x.done → x.only < i → index_in_parent x i ≡ x.kept + x.erases
   placed_over lt beyond over = grind (arith, nat_tests)
 
-first_is : (x : PowerOn) (u : Content) → at x 0 ≡ Some u → x.content ≡ u
-unfolding at
-first_is x u is = cc
-
 module _ (from : PowerOn) (u : Content) (cut next : Boot) (a b : Course) (whole : Report) (x : SharedTail) where
   module _ (is : IsCut from u cut whole) (at_a : cut.course ≡ Some a) (at_b : next.course ≡ Some b) (of : IsBootOf from.geometry next) where
     module _ (start : progress next ≡ begun from.rules (plan (again from u))) (ok : IsLayout b.layout) (found : kept_of a cut.done b ≡ Some x.kept)
         (done : x.done ≡ cut.done) (erases : x.erases ≡ erases_of b) where
       list_u : (plan (again from u)).list ≡ course_list b
-      list_u = sym (begun_list from.rules (plan (again from u)) next start) ∙ ap whole_list at_b
+      list_u = sym (grind arith) ∙ ap whole_list at_b
 
       met : Meets from.geometry (course_list a) (course_list b) cut.done x.kept (erases_of b)
       met = joins_meet from.geometry a b cut.done x.kept ok (layout_is from.geometry cut.course a at_a is.layout) (layout_is from.geometry next.course b at_b of) found

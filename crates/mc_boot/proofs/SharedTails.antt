@@ -46,15 +46,12 @@ module _ (from : PowerOn) (u : Content) (c j : ℕ) (es : List Sector) (joins : 
       at_most = happens_few_of from
 
   -- Among the erases.
-  erased_some : (x : Content) (i : ℕ) → i ≤ length es → applied from.geometry (take i (ops_of (again from u))) x ≡ Some (blank from.geometry (take i es) x)
-  erased_some x i at_most = grind (arith, ops_are, take_mapped, erases_applied)
-
   next_at : (i : ℕ) → i ≤ length es → at (again from u) i ≡ Some (blank from.geometry (take i es) u)
   unfolding at
-  next_at i at_most = erased_some u i at_most
+  next_at i at_most = grind (arith, ops_are, take_mapped, erases_applied)
 
   further_at : (i : ℕ) → i ≤ length es → at from (j + i) ≡ Some (blank from.geometry (take i es) met.from)
-  further_at i at_most = further i ∙ erased_some met.from i at_most
+  further_at i at_most = further i ∙ (grind (arith, ops_are, take_mapped, erases_applied))
 
   -- After the erases both are the same.
   pub late : (i : ℕ) → length es ≤ i → at (again from u) i ≡ at from (j + i)

@@ -21,9 +21,8 @@ length-image g a laws image = length-take-le (image_size a) a (inside_size a law
 
 pub image_short : (g : Geometry) (a : List ℕ) (o : Slot) → ImageLaws → IsLayout g → BeginsImage g a → length (image_bytes a) ≤ data_end g o
 image_short g a o laws ok image =
-    let wide = ok.least_sector in
     let whole = length-image g a laws image in
-    let rows : image_size a ≤ div_ceil (image_size a) g.sector * g.sector = (div_ceil_times (image_size a) g.sector (omega (arith, wide))).0 in
+    let rows : image_size a ≤ div_ceil (image_size a) g.sector * g.sector = (div_ceil_times (image_size a) g.sector (omega arith)).0 in
     let at_most : div_ceil (image_size a) g.sector * g.sector ≤ data_end g o = mul-le-mul_right g.sector (image_is_data g o (div_ceil (image_size a) g.sector) (fits_few g (image_size a) ok
     image.fitting))
     in
@@ -151,9 +150,8 @@ ok_free : (g : Geometry) (y : List ℕ) → IsLayout g → length y ≤ data_end
 unfolding marked
 ok_free g y ok short =
     let len = length-filled g Secondary y (short_in g y Secondary ok short) in
-    let magic = place_inside g Secondary field.Magic ok in
     let image_ok = place_inside g Secondary field.ImageOk ok in
-    put_before (filled g Secondary y) magic_bytes (place g Secondary field.Magic) (place g Secondary field.ImageOk) (magic_fits g (filled g Secondary y) ok len) (omega (arith, magic, image_ok))
+    put_before (filled g Secondary y) magic_bytes (place g Secondary field.Magic) (place g Secondary field.ImageOk) (magic_fits g (filled g Secondary y) ok len) (omega (arith, image_ok))
     ∙ filled_free g Secondary y (place g Secondary field.ImageOk) (omega (arith, short, place_beyond_data g Secondary field.ImageOk ok)) (omega (arith, image_ok))
 
 -- what is there of the bytes
@@ -197,9 +195,8 @@ test_fields g x y ok short f i h within = absurd (omega (arith, h))
 perm_fields : (g : Geometry) (x y : List ℕ) → IsLayout g → length y ≤ data_end g Secondary → FieldsAre g (perm_flash g x y) Secondary (asked false)
 unfolding marked
 perm_fields g x y ok short field.Magic i h within =
-    let magic = place_inside g Secondary field.Magic ok in
     let image_ok = place_inside g Secondary field.ImageOk ok in
-    put_beyond (marked g y) (1 ∷ []) (place g Secondary field.ImageOk) (place g Secondary field.Magic + i) (ok_fits g (marked g y) ok (length-marked g y ok short)) (omega (arith, magic, image_ok))
+    put_beyond (marked g y) (1 ∷ []) (place g Secondary field.ImageOk) (place g Secondary field.Magic + i) (ok_fits g (marked g y) ok (length-marked g y ok short)) (omega (arith, image_ok))
     ∙ magic_there g y i ok short within
 perm_fields g x y ok short field.ImageOk i h within = put_inside (marked g y) (1 ∷ []) (place g Secondary field.ImageOk) i (ok_fits g (marked g y) ok (length-marked g y ok short)) h
 perm_fields g x y ok short f i h within = absurd (omega (arith, h))

@@ -1,10 +1,10 @@
 -- What stands at the start of the slots on the way of a swap, what a boot keeps, and how a swap ends.
 use Rattle.std.proofs.{Common.{ap, arith, inl, inr, subst, sym, ◌∙◌}, Math.Nat.{mod-add-div', mul-le-mul_right}, lemmas.Bool.{cases_lt}}
 use Rattle.std.proofs.{lemmas.Grind.{div_ceil_times}, lemmas.Nat.{mod_below}}
-use Rattle.std.specs.Prelude.{Bool, List, [], false, if◌then◌else◌, max, refl, replicate, suc, take, true, zero, ℕ, ◌%◌, ◌*◌, ◌++◌, ◌+◌, ◌-◌, ◌/◌, ◌<◌, ◌==◌, ◌≡◌, ◌≤◌}
-use Rattle.mc_boot.proofs.{Courses.{get_moved}, Images.{HasImage, SameImage, same_prefixes, same_image}}
+use Rattle.std.specs.Prelude.{Bool, false, max, refl, replicate, suc, take, true, zero, ℕ, ◌%◌, ◌*◌, ◌+◌, ◌-◌, ◌/◌, ◌<◌, ◌==◌, ◌≡◌, ◌≤◌}
+use Rattle.mc_boot.proofs.{Courses.{get_moved}, Images.{SameImage, same_prefixes, same_image}}
 use Rattle.mc_boot.proofs.{InPieces.{pieces_again, plan_in_pieces, swap_pieces, trailer_pieces}, Keeps.{Keeps}, Moving.{Data, IsNoTarget, byte_held}}
-use Rattle.mc_boot.proofs.Phases.{Asked, Ended, IsSwapOf, Phase, SeesImages, Swap, Under, absent_reverts, closed, image_ok_is, kind_asked, larger_size, plan_asked, plan_settled, plan_tested, plan_under, running, sees_images, starting, swap_of, tested}
+use Rattle.mc_boot.proofs.Phases.{Asked, Ended, IsSwapOf, Phase, SeesImages, Swap, Under, image_ok_is, kind_asked, larger_size, plan_asked, plan_settled, plan_tested, plan_under, running, sees_images, starting, swap_of}
 use Rattle.mc_boot.proofs.SwapsKeep.{rest_keeps, swap_keeps, clearing_keeps}
 use Rattle.mc_boot.proofs.Transfers.{Held, at_start, exchanged, held_after_all, held_at, held_begin, held_end, other_number, place_below, same_transfer}
 use Rattle.mc_boot.specs.{Plan.{Plan, PowerOn, again, image_size, moved_up, new_list, plan, power_on, transfers}, Restart.{AreExchanged, IsSettled, IsTested}}
@@ -13,9 +13,9 @@ use Rattle.mc_flash.specs.{Flash.{Content, IsSized, byte, bytes_of, size_of}, Ge
 use Rattle.mc_flash.specs.{declared.flash.Grain.{Grain}, declared.op.Slot.{Slot}, declared.op.Slot.TheVariants.{Primary, Secondary}, facts.Changes.{sized_is}}
 use Rattle.mc_flash.specs.facts.Layouts.{data_before_trailer, data_sectors, image_is_data}
 use Rattle.mc_image.specs.Valid.{is_valid}
-use Rattle.mc_trailer.specs.{Trailer.{one_unit, room, trailer_of}, declared.places.Field.{Field}, declared.tables.Rules.{Rules}}
+use Rattle.mc_trailer.specs.{Trailer.{room}, declared.tables.Rules.{Rules}}
 use Rattle.mc_trailer.specs.declared.tables.SwapType.{SwapType}
-use Rattle.mc_trailer.specs.facts.Fields.{FieldsAre, blank_fields, fields_prefix, reads_absent, reads_copy_done, reads_good}
+use Rattle.mc_trailer.specs.facts.Fields.{reads_absent, reads_copy_done, reads_good}
 use Rattle.mc_trailer.specs.declared.places.Field.TheVariants as field
 
 -- The first n sectors of a slot, byte by byte, and the image in them.
@@ -30,9 +30,7 @@ prefix_held : (g : Geometry) (start : Content) (n k : ℕ) (s : Content) (o from
     → (p : ℕ) → p < n * g.sector → byte s o p ≡ byte start from p
 prefix_held g start n k s o from ok room held free data_ p below =
     let parts = mod-add-div' p g.sector in
-    let wide = ok.least_sector in
-    let short : p % g.sector < g.sector = mod_below p g.sector (omega (arith, wide)) in
-    let i : ℕ = p / g.sector in
+    let short : p % g.sector < g.sector = mod_below p g.sector (omega arith) in
     let inside : p / g.sector < n = in_prefix (p / g.sector) (p % g.sector) parts in
     ap (byte s o) (omega (arith, parts))
     ∙ data_.held o (p / g.sector) (p % g.sector) (omega (arith, inside, room)) short (free (p / g.sector) inside)
@@ -73,26 +71,12 @@ prefix_at_end g start n s o ok at_most data_ =
     swapped Primary i h = (exchanged g n).done i h
     swapped Secondary i h = (exchanged g n).taken i h
 
--- the images of a start end in its first n sectors
-size_in_prefix : (g : Geometry) (start : Content) (size n : ℕ) (o : Slot) → Swap g start size n → image_size (bytes_of start o) ≤ n * g.sector
-size_in_prefix g start size n o w = omega (arith, least o, rows)
-  where
-    rows : size ≤ n * g.sector
-    rows = let wide = w.ok.least_sector in let E : ℕ → Type 0 = λ m. size ≤ m * g.sector in subst E w.count (div_ceil_times size g.sector (omega (arith, wide))).0
-
-    least : (o : Slot) → image_size (bytes_of start o) ≤ size
-    least Primary = let larger = w.larger in omega (arith, larger)
-    least Secondary = let larger = w.larger in omega (arith, larger)
-
-has_image : (g : Geometry) (start : Content) (size n : ℕ) (o : Slot) → Swap g start size n → HasImage (bytes_of start o)
-has_image g start size n it w = grind arith
-
 -- a slot that begins as a slot of the start holds its image
 pub image_there : (g : Geometry) (start : Content) (size n : ℕ) (s : Content) (o from : Slot) → Swap g start size n → IsSized g s → ((p : ℕ) → p < n * g.sector → byte s o p ≡ byte start from p)
     → SameImage (bytes_of start from) (bytes_of s o)
 image_there g start size n s o from w sized same =
-    let there = size_in_prefix g start size n from w in
-    same_image (bytes_of start from) (bytes_of s o) w.laws (has_image g start size n from w)
+    let there : image_size (bytes_of start from) ≤ n * g.sector = grind (arith, div_ceil_times) in
+    same_image (bytes_of start from) (bytes_of s o) w.laws (grind arith)
     (omega (arith, there, prefix_inside g n from w.ok w.at_most, sized_is g start from w.sized))
     (omega (arith, there, prefix_inside g n o w.ok w.at_most, sized_is g s o sized)) (λ i h. same i (omega (arith, h, there)))
 
@@ -118,9 +102,6 @@ larger_end g start size n s w data_ =
 pub sees_start : (g : Geometry) (start : Content) (size n : ℕ) (s : Content) → Swap g start size n → Data g n start 0 s → SeesImages s size
 sees_start g start size n s w data_ = let sees = larger_start g start size n s w data_ in sees_images s size sees.0 sees.1
 
-pub sees_end : (g : Geometry) (start : Content) (size n : ℕ) (s : Content) → Swap g start size n → Data g n start (3 * n) s → SeesImages s size
-sees_end g start size n s w data_ = let sees = larger_end g start size n s w data_ in sees_images s size sees.0 sees.1
-
 -- Each boot from a phase keeps to the phases, and ends the swap. Here the chunk of the layout is what is copied at once.
 
 -- the kind and the count of a boot's plan
@@ -145,16 +126,13 @@ asked_keeps : (R : Content → Type 0) (c : Grain) (g : Geometry) (start : Conte
     → Keeps g (Phase R g start size n b) (new_list c g (kind_asked b) size n) s (Ended g start size n b)
 asked_keeps it c g start size n one s w is = grind (arith, swap_keeps)
 
-of_asked : (b : Bool) → IsSwapOf b (kind_asked b)
-of_asked it = grind arith
-
 pub asked_swaps : (R : Content → Type 0) (x : PowerOn) (size n : ℕ) (b : Bool) → in_pieces x.rules.grain x.geometry ≡ x.geometry → Swap x.geometry x.content size n → (s : Content)
     → Asked x.geometry x.content n b s
     → Swaps R x size n b s
 asked_swaps R from size n b whole w s is =
     let g = from.geometry in
     let c = from.rules.grain in
-    by_plan R from size n b s (starting c g (kind_asked b) size n) (plan_asked from size n b s w (sees_start g from.content size n s w is.data_) is) (of_asked b) refl
+    by_plan R from size n b s (starting c g (kind_asked b) size n) (plan_asked from size n b s w (sees_start g from.content size n s w is.data_) is) (grind arith) refl
     (rw whole (asked_keeps R c g from.content size n b s w is))
 
 -- from where it runs
@@ -209,16 +187,6 @@ exchanges g start size n z w data_ = record {
   secondary = prefix_lists g start n z Secondary Primary w.ok w.at_most w.sized data_.sized (prefix_at_end g start n z Secondary w.ok w.at_most data_);
 }
 
--- the fields of a finished test
-pub tested_fields : (g : Geometry) (start : Content) (size n : ℕ) (z : Content) (e : Ended g start size n true z) → FieldsAre g z Primary tested
-tested_fields g start size n z e = fields_prefix g z Primary (closed g e.0 size) tested less e.2.primary
-  where
-    less : (f : Field) → (rest : List ℕ) × (closed g e.0 size f ≡ tested f ++ rest)
-    less field.Magic = ([], refl)
-    less field.ImageOk = (replicate 7 255, ap (λ (c : Bool). if c then blank_fields field.ImageOk else one_unit g 1) (swap_of true e.0 e.1))
-    less field.CopyDone = (replicate (g.unit - 1) 255, refl)
-    less f = (_, refl)
-
 -- the trailers at the end
 pub tested_end : (x : PowerOn) (size n : ℕ) (z : Content) → Swap x.geometry x.content size n → (e : Ended x.geometry x.content size n true z) → IsTested (again x z)
 tested_end x size n z w e =
@@ -230,8 +198,8 @@ tested_end x size n z w e =
       copy_done = set;
       next = ap (λ (q : Plan). q.kind) (plan_tested (again x z) size n
           (reads_good x.geometry z Primary w.ok done.data_.sized (done.primary field.Magic)) unset set
-          (absent_reverts x.rules.profile (trailer_of x.geometry z Secondary).magic (reads_absent x.geometry z Secondary w.ok done.data_.sized (done.secondary field.Magic)))
-          (sees_end x.geometry x.content size n z w done.data_) w.count w.at_most);
+          (grind (arith, reads_absent x.geometry z Secondary w.ok done.data_.sized (done.secondary field.Magic)))
+          (let sees = larger_end x.geometry x.content size n z w done.data_ in sees_images z size sees.0 sees.1) w.count w.at_most);
     }
 
 pub settled_end : (x : PowerOn) (size n : ℕ) (z : Content) → Swap x.geometry x.content size n → (e : Ended x.geometry x.content size n false z) → IsSettled (again x z)
@@ -244,8 +212,5 @@ settled_end x size n z w e =
 
 -- the same on the layout itself
 module _ (r : Rules) (g : Geometry) (z : Content) where
-  pub tested_on : IsTested (power_on r (in_pieces r.grain g) z) → IsTested (power_on r g z)
-  tested_on is = grind (arith, trailer_pieces, plan_in_pieces)
-
   pub settled_on : IsSettled (power_on r (in_pieces r.grain g) z) → IsSettled (power_on r g z)
   settled_on is = grind (arith, trailer_pieces, plan_in_pieces)

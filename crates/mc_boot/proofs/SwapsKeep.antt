@@ -2,16 +2,16 @@
 use Rattle.std.proofs.{Common.{ap, arith, inl, inr, subst, sym, ◌∙◌}, lemmas.List.{get_or-replicate, length-replicate, length-take-le, drop_all}}
 use Rattle.std.specs.Prelude.{Bool, List, Some, [], drop, false, flat_map, if◌then◌else◌, length, refl, replicate, slice_get, suc, take, true, zero, ℕ, ◌%◌, ◌*◌, ◌++◌, ◌+◌, ◌-◌, ◌/◌, ◌<◌, ◌∷◌, ◌≡◌, ◌≢◌, ◌≤◌, ◌⊎◌}
 use Rattle.mc_boot.proofs.Courses.{drop_at_place, some_trailer}
-use Rattle.mc_boot.proofs.Keeps.{Erased, Keeps, Part, erase_beyond_data, erased_here, erased_still, erases_keep, field_write_keeps, keeps_append, keeps_then, place_beyond_data}
+use Rattle.mc_boot.proofs.Keeps.{Erased, Keeps, Part, erased_here, erased_still, erases_keep, field_write_keeps, keeps_append, keeps_then, place_beyond_data}
 use Rattle.mc_boot.proofs.Moving.{Copied, Data, IsOutside, Transferred, data_half, data_same, data_step, kept_below, transfer_keeps}
 use Rattle.mc_boot.proofs.Phases.{Asked, Ended, IsSwapOf, Phase, MagicUnset, Swap, Under, Waiting, asked, asks, closed, opened, runs, tested, unasked, waits}
 use Rattle.mc_boot.proofs.Transfers.{Entries, Fits, entries_kept, entries_none, entry_number, entry_step, fits_at, number_below, number_up, place_below, there_is}
 use Rattle.mc_boot.specs.facts.Lengths.{length-transfers}
 use Rattle.mc_boot.specs.Plan.{closing, from_transfer, image_ok_write, info_write, is_test, marking, new_list, number_of, opening_writes, preparation_writes, resumed_list, steps, swap_list, trailer_erases, transfers, write}
 use Rattle.mc_boot.specs.declared.transfer.Transfer.{Transfer}
-use Rattle.mc_flash.specs.{Flash.{Content, IsSized, byte, sectors_of, size_of}, Geometry.{Geometry, IsLayout, greatest_sectors, trailer_bytes, trailer_sectors}}
+use Rattle.mc_flash.specs.{Flash.{Content, byte, sectors_of, size_of}, Geometry.{Geometry, IsLayout, greatest_sectors, trailer_bytes, trailer_sectors}}
 use Rattle.mc_flash.specs.{declared.flash.Grain.{Grain}, declared.op.Slot.{Slot}, declared.op.Slot.TheVariants.{Primary, Secondary}}
-use Rattle.mc_flash.specs.{facts.Changes.{Changed, changed_sized}, facts.Layouts.{data_before_trailer, data_end, small_unit, trailer_leaves_one}}
+use Rattle.mc_flash.specs.{facts.Changes.{Changed, changed_sized}, facts.Layouts.{trailer_sector_beyond_data, data_before_trailer, data_end, small_unit, trailer_leaves_one}}
 use Rattle.mc_trailer.specs.{Trailer.{entry_place, magic_bytes, one_unit, place, room, size_bytes}, declared.places.Field.{Field}}
 use Rattle.mc_trailer.specs.declared.tables.SwapType.{SwapType}
 use Rattle.mc_trailer.specs.facts.Fields.{FieldIs, FieldsAre, blank_byte, blank_field, blank_fields, field_as, field_kept_beside, field_write, fields_as, fields_prefix, fields_same, same_field_is, set_field, write_field}
@@ -39,10 +39,9 @@ module _ (g : Geometry) (start : Content) (size n : ℕ) (w : Swap g start size 
   under_half kind k c s u x most at is so =
       let fits = fits_at g n k x w.ok w.at_most at in
       let kept = trailers_kept g n k c s u x w.ok fits so in
-      let at_most = w.at_most in
       record {
         primary = fields_same g s u Primary (opened g kind size) w.ok (λ i h. kept Primary i (omega (arith, h))) is.primary;
-        entries = entries_kept g n k s u w.ok (omega (arith, at_most)) most (λ i h _. kept Primary i h) is.entries;
+        entries = entries_kept g n k s u w.ok (omega arith) most (λ i h _. kept Primary i h) is.entries;
         secondary = fields_same g s u Secondary unasked w.ok (λ i h. kept Secondary i (omega (arith, h))) is.secondary;
         data_ = data_half g n start k c s u x at is.data_ so;
       }
@@ -164,7 +163,7 @@ unasked_is g s i are below = are field.Magic i (omega (arith, below, length-repl
 pub data_erased : (g : Geometry) (slot : Slot) (n : ℕ) (start : Content) (k i : ℕ) (s t : Content) → i < trailer_sectors g → Erased g slot i s t → Data g n start k s → Data g n start k t
 data_erased g slot n start k i s t below ch data_ =
     data_same g n start k s t (changed_sized g s t slot _ _ ch data_.sized) (kept_below g s t slot ((sectors_of g slot - 1 - i) * g.sector) (replicate g.sector 255) ch
-    (erase_beyond_data g slot i below)) data_
+    (trailer_sector_beyond_data g slot (sectors_of g slot - 1 - i) (omega arith))) data_
 
 -- the first erase takes the secondary's magic
 pub magic_erased : (g : Geometry) (i : ℕ) (s t : Content) (p : ℕ) → IsLayout g → i ≡ 0 → Erased g Secondary i s t → p < 16 → byte t Secondary (place g Secondary field.Magic + p) ≡ 255
@@ -173,9 +172,7 @@ magic_erased g i s t p ok first ch below = erased_here g Secondary i s t (place 
     at : (k : ℕ) → sectors_of g Secondary ≡ k + 1 → (k * g.sector ≤ place g Secondary field.Magic + p) × (place g Secondary field.Magic + p < k * g.sector + g.sector)
     at k e =
         let rows : sectors_of g Secondary * g.sector ≡ (k + 1) * g.sector = ap (λ n. n * g.sector) e in
-        let inside = place_inside g Secondary field.Magic ok in
-        let wide = ok.least_sector in
-        (omega (arith, rows, inside, wide), omega (arith, rows, inside, below))
+        grind (arith, below)
 
     last : ((sectors_of g Secondary - 1 - i) * g.sector ≤ place g Secondary field.Magic + p) × (place g Secondary field.Magic + p < (sectors_of g Secondary - 1 - i) * g.sector + g.sector)
     last = at (sectors_of g Secondary - 1 - i) (let leaves = trailer_leaves_one g Secondary ok in omega (arith, first))
@@ -248,16 +245,12 @@ module _ (g : Geometry) (start : Content) (size n : ℕ) (w : Swap g start size 
   }
 
   module _ (R : Content → Type 0) where
-    clearing_bears : (kind : SwapType) (i : ℕ) (t : Content) → IsSwapOf b kind → Clearing g start size n b kind i t
-        → Phase R g start size n b t × IsSized g t
-    clearing_bears kind i t of it = grind arith
-
     pub clearing_keeps : (kind : SwapType) (s : Content) → IsSwapOf b kind → Clearing g start size n b kind 0 s
         → Keeps g (Phase R g start size n b) (resumed_list g n 0 true false) s (Ended g start size n b)
     clearing_keeps kind s of is =
         keeps_append g (Phase R g start size n b) _ (Ended g start size n b) (trailer_erases g Secondary) (from_transfer g n 0 false) s
         (erases_keep g Secondary (Phase R g start size n b) (Clearing g start size n b kind) s w.ok
-        (λ i t k. clearing_bears kind i t of k)
+        (λ i t k. grind arith)
         (λ i t u h k ch. inr (clears kind i t u h k ch)) is)
         (λ t k. rest_keeps g start size n w R b kind of 0 t (omega arith) (cleared t k.0))
       where

@@ -50,23 +50,17 @@ pub record Paired (n k : ℕ) (f : Held) : Type 0 where
 pub other_number : (m n : ℕ) → (m ≡ n → ⊥) → (m == n) ≡ false
 other_number m n distinct = grind (arith, nat_tests)
 
-move_step : (n j : ℕ) (f : Held) → j < n → Moved n j f → Moved n (j + 1) (held_after f (moved_up n j))
-move_step n j f below m = grind arith
-
-pair_step : (g : Geometry) (n k : ℕ) (f : Held) → k < n → Paired n k f → Paired n (k + 1) (held_after (held_after f (brought_in g k)) (taken_out g k))
-pair_step g n k f below p = grind arith
-
 pub held_append : (f : Held) (xs ys : List Transfer) → held_after_all f (xs ++ ys) ≡ held_after_all (held_after_all f xs) ys
 held_append f [] ys = refl
 held_append f (x ∷ xs) ys = held_append (held_after f x) xs ys
 
 moves : (n a m : ℕ) (f : Held) → a + m ≡ n → Moved n a f → Moved n n (held_after_all f (map (moved_up n) (range_with_len a m)))
 moves n a zero f whole so = let E : ℕ → Type 0 = λ k. Moved n k f in subst E (omega (arith, whole)) so
-moves n a (suc m) f whole so = moves n (a + 1) m (held_after f (moved_up n a)) (omega (arith, whole)) (move_step n a f (omega (arith, whole)) so)
+moves n a (suc m) f whole so = moves n (a + 1) m (held_after f (moved_up n a)) (omega (arith, whole)) (grind arith)
 
 pairs : (g : Geometry) (n a m : ℕ) (f : Held) → a + m ≡ n → Paired n a f → Paired n n (held_after_all f (flat_map (λ i. brought_in g i ∷ taken_out g i ∷ []) (range_with_len a m)))
 pairs g n a zero f whole so = let E : ℕ → Type 0 = λ k. Paired n k f in subst E (omega (arith, whole)) so
-pairs g n a (suc m) f whole so = pairs g n (a + 1) m (held_after (held_after f (brought_in g a)) (taken_out g a)) (omega (arith, whole)) (pair_step g n a f (omega (arith, whole)) so)
+pairs g n a (suc m) f whole so = pairs g n (a + 1) m (held_after (held_after f (brought_in g a)) (taken_out g a)) (omega (arith, whole)) (grind arith)
 
 -- All transfers exchange the first n sectors.
 pub exchanged : (g : Geometry) (n : ℕ) → Paired n n (held_after_all at_start (transfers g n))
@@ -98,11 +92,7 @@ pub record Entries (g : Geometry) (n k : ℕ) (s : Content) : Type 0 where
 pub entries_kept : (g : Geometry) (n k : ℕ) (s t : Content) → IsLayout g → n ≤ g.max_sectors → k ≤ 3 * n
     → ((i : ℕ) → size_of g Primary ≤ i + trailer_bytes g → i + 48 < size_of g Primary → byte t Primary i ≡ byte s Primary i) → Entries g n k s → Entries g n k t
 entries_kept g n k s t ok at_most most same en = record {
-  last = λ some.
-      let below : entry_number g n (k - 1) < 3 * g.max_sectors = number_below g n (k - 1) at_most (omega (arith, some, most)) in
-      let unit = small_unit g ok in
-      same (entry_place g (entry_number g n (k - 1))) (omega (arith, entry_inside g (entry_number g n (k - 1)) ok below)) (omega (arith, unit, entry_ends g (entry_number g n (k - 1)) ok below)) ∙
-      en.last some;
+  last = grind (arith, entry_number, number_below, small_unit, entry_inside, entry_ends);
   free = λ e i below above h. entries_same g s t ok same e below i h ∙ en.free e i below above h;
 }
 
@@ -238,9 +228,6 @@ pub record Fits (g : Geometry) (n k : ℕ) (x : Transfer) : Type 0 where
   pub to_data : x.to_sector < data_sectors g x.to
   pub entry : x.entry ≡ entry_number g n k
 
-fits_moved : (g : Geometry) (n k : ℕ) → IsLayout g → n ≤ greatest_sectors g → k < n → Fits g n k (moved_up n k)
-fits_moved g n k ok at_most low = grind arith
-
 fits_brought : (g : Geometry) (n k i : ℕ) → IsLayout g → n ≤ greatest_sectors g → i < n → k ≡ n + 2 * i → Fits g n k (brought_in g i)
 fits_brought g n k i ok at_most low is = grind arith
 
@@ -254,7 +241,7 @@ pub fits_at : (g : Geometry) (n k : ℕ) (x : Transfer) → IsLayout g → n ≤
 fits_at g n k x ok at_most at = elim (cases_lt k n) [
   | inl low ↦
       let same : moved_up n k ≡ x = same_transfer (moved_up n k) x (sym (get_moved g n k low) ∙ at) in
-      rw (← same) (fits_moved g n k ok at_most low)
+      rw (← same) (grind arith)
   | inr high ↦ elim (cases_eq ((k - n) % 2) 0) [
     | inl even ↦
         let same : brought_in g ((k - n) / 2) ≡ x = same_transfer (brought_in g ((k - n) / 2)) x (sym (get_brought g n k ((k - n) / 2) (omega (arith, within)) (omega arith)) ∙ at) in
@@ -298,15 +285,5 @@ held_end g n = ap (held_after_all at_start) (take_all (3 * n) (transfers g n) (o
 same_is : (o : Slot) → is_same o o ≡ true
 same_is it = grind arith
 
-is_same_means : (o p : Slot) → is_same o p ≡ true → o ≡ p
-is_same_means o p e = grind arith
-
 pub held_here : (f : Held) (x : Transfer) → held_after f x x.to x.to_sector ≡ f x.from x.from_sector
 held_here f x = rw (same_is x.to) (rw (eq-eqb x.to_sector x.to_sector refl) refl)
-
-pub held_there : (f : Held) (x : Transfer) (o : Slot) (i : ℕ) → (o ≡ x.to → i ≡ x.to_sector → ⊥) → held_after f x o i ≡ f o i
-held_there f x o i away = by (is_same o x.to) refl
-  where
-    by : (b : Bool) → is_same o x.to ≡ b → held_after f x o i ≡ f o i
-    by false e = rw e refl
-    by true e = rw e (let d : (i == x.to_sector) ≡ false = other_number i x.to_sector (away (is_same_means o x.to e)) in rw d refl)

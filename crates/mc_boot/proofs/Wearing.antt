@@ -1,8 +1,8 @@
 -- The application's own work leaves bytes; a list of operations erases a sector at most twice.
-use Rattle.std.proofs.{Common.{arith, inl, inr}, lemmas.Bool.{cases_lt}, lemmas.Bool.Decides.{nat_tests}}
+use Rattle.std.proofs.{Common.{arith, inl, inr}, lemmas.Bool.{cases_lt}}
 use Rattle.std.proofs.lemmas.List.{get_or-replicate, get_or_past, length-replicate}
 use Rattle.std.specs.List.{between, range_with_len}
-use Rattle.std.specs.Prelude.{Bool, List, None, Option, Some, [], drop, false, flat_map, if◌then◌else◌, length, map, nat_lt, refl, replicate, slice_index, suc, take, true, zero, ℕ, ◌*◌, ◌++◌, ◌+◌, ◌-◌, ◌/◌, ◌<◌, ◌==◌, ◌||◌, ◌∷◌, ◌≡◌, ◌≤◌, ◌⊎◌}
+use Rattle.std.specs.Prelude.{Bool, List, None, Option, Some, [], drop, false, flat_map, if◌then◌else◌, length, map, refl, replicate, slice_index, suc, take, true, zero, ℕ, ◌*◌, ◌++◌, ◌+◌, ◌-◌, ◌/◌, ◌<◌, ◌∷◌, ◌≡◌, ◌≤◌, ◌⊎◌}
 use Rattle.mc_boot.specs.{Life.{AreSecondary, WearLaw, WorkLaw, all_erases, erases}, Outcome.{first_then, happening, ops_of}}
 use Rattle.mc_boot.specs.Plan.{Plan, PowerOn, brought_in, closing, copy_of, from_transfer, is_revert, marking, moved_up, new_list, new_plan, new_swap, nothing, opening_writes, plan, plan_with, preparation_writes, resumed_from, resumed_list, resumed_plan, resumed_swap, steps, swap_list, taken_out, trailer_erases, transfers, write}
 use Rattle.mc_boot.specs.{declared.image.Images.{Images}, declared.transfer.Transfer.{Transfer}}
@@ -62,16 +62,6 @@ work_law g (Copy from at to offset len) s t ok sized bytes work can is = absurd 
 
 -- No power-on erases a sector more than twice.
 
--- an erase of the sector, or none
-abbrev count : Bool → ℕ
-count b = if b then 1 else 0
-
-hit : (b : Bool) → (count b ≡ 0) ⊎ (count b ≡ 1)
-hit it = grind arith
-
-here : (i k : ℕ) → count (i == k) ≡ 1 → i ≡ k
-here i k is = grind arith
-
 -- ---- lists, for a slot o and a sector k of it
 
 module _ (o : Slot) (k : ℕ) where
@@ -79,12 +69,7 @@ module _ (o : Slot) (k : ℕ) where
   W = all_erases o k
 
   none_or_once : (op : Op) → (erases o k op ≡ 0) ⊎ (erases o k op ≡ 1)
-  none_or_once = go o
-    where
-      go : (s : Slot) (op : Op) → (erases s k op ≡ 0) ⊎ (erases s k op ≡ 1)
-      go Primary (Erase Primary i) = hit (i == k)
-      go Secondary (Erase Secondary i) = hit (i == k)
-      go s op = inl refl
+  none_or_once = grind arith
 
   W-append : (xs ys : List Op) → W (xs ++ ys) ≡ W xs + W ys
   W-append [] ys = omega arith
@@ -102,9 +87,8 @@ module _ (o : Slot) (k : ℕ) where
   none_in : (f : ℕ → Op) (a n : ℕ) → ((i : ℕ) → a ≤ i → i < a + n → erases o k (f i) ≡ 0) → W (map f (range_with_len a n)) ≡ 0
   none_in f a zero each = refl
   none_in f a (suc n) each =
-      let now = each a (omega arith) (omega arith) in
       let rest = none_in f (a + 1) n (λ i from below. each i (omega (arith, from)) (omega (arith, below))) in
-      omega (arith, now, rest)
+      omega (arith, rest)
 
   once : (f : ℕ → Op) (a n : ℕ) → ((i j : ℕ) → i < j → j < a + n → erases o k (f i) ≡ 1 → erases o k (f j) ≡ 1 → ⊥) → W (map f (range_with_len a n)) ≤ 1
   once f a zero apart = omega arith
@@ -226,9 +210,6 @@ module _ (o : Slot) (k : ℕ) (l : Geometry) (n : ℕ) (ok : IsLayout l) (at_mos
 
 chosen : (o : Slot) (k : ℕ) (b : Bool) (p q : Plan) → (b ≡ true → all_erases o k p.list ≤ 2) → (b ≡ false → all_erases o k q.list ≤ 2) → all_erases o k (if b then p else q).list ≤ 2
 chosen o k it p q yes_ no_ = grind arith
-
-not_above : (n most : ℕ) (b : Bool) → (b || nat_lt most n) ≡ false → n ≤ most
-not_above n most b e = grind (arith, nat_tests, e)
 
 module _ (o : Slot) (k : ℕ) (c : Grain) (g : Geometry) (ok : IsLayout g) where
   nothing_worn : (kind : SwapType) → all_erases o k (nothing kind).list ≤ 2

@@ -1,7 +1,7 @@
 -- How much a boot does at most: how many operations, and how many bytes their erases save.
-use Rattle.std.specs.Prelude.{◌≡◌, ◌⊎◌, ℕ, ◌+◌, ◌*◌, ◌/◌, ◌≤◌, ◌==◌, ◌||◌, not, nat_lt, Bool, true, false, if◌then◌else◌, List, [], ◌∷◌, ◌++◌, length, drop, is_none, max, map, flat_map, Option, Some, None, refl}
+use Rattle.std.specs.Prelude.{◌≡◌, ◌⊎◌, ℕ, ◌+◌, ◌*◌, ◌/◌, ◌≤◌, ◌==◌, ◌||◌, not, nat_lt, Bool, true, false, if◌then◌else◌, List, [], ◌∷◌, ◌++◌, length, drop, is_none, max, map, flat_map, Option, Some, None}
 use Rattle.std.specs.{Int.{div_ceil}, List.{range_with_len}}
-use Rattle.std.proofs.{Common.{arith, ap, length-append, inl, inr}, Math.Nat.{mul-le-mul_right}, lemmas.List.{length-drop}}
+use Rattle.std.proofs.{Common.{arith, ap, length-append}, Math.Nat.{mul-le-mul_right}, lemmas.List.{length-drop}}
 use Rattle.std.proofs.lemmas.List.FromFn.{length-map-range_with_len, length-range_with_len}
 use Rattle.mc_flash.specs.{Geometry.{Geometry, IsLayout, trailer_sectors, greatest_sectors, in_pieces}, Flash.{Content, apply}}
 use Rattle.mc_flash.specs.{Usage.{saves, most_operations, most_saved}, declared.flash.Grain.{Grain}}
@@ -11,7 +11,7 @@ use Rattle.mc_trailer.specs.{Trailer.{trailer_of, place, highest_entry}, Tables.
 use Rattle.mc_trailer.specs.{declared.trailer.Flag.{Flag}, declared.trailer.Trailer.{Trailer}, declared.tables.SwapType.{SwapType}}
 use Rattle.mc_trailer.specs.declared.tables.SwapType.TheVariants as kinds
 use Rattle.mc_boot.specs.{declared.image.Images.{Images}, declared.transfer.Transfer.{Transfer}}
-use Rattle.mc_boot.specs.Plan.{images_of, transfers, copy_of, entry_of, steps, trailer_erase, trailer_erases, piece, write, write_count, is_revert, preparation_writes, swap_list, new_list, Plan, nothing, confirms, first_left, new_swap, new_plan, resumed_from, resumed_swap, resumed_plan, plan_with, plan, PowerOn}
+use Rattle.mc_boot.specs.Plan.{images_of, transfers, copy_of, entry_of, steps, trailer_erase, trailer_erases, piece, write, write_count, preparation_writes, swap_list, new_list, Plan, nothing, confirms, first_left, new_swap, new_plan, resumed_from, resumed_swap, resumed_plan, plan_with, plan, PowerOn}
 use Rattle.mc_boot.specs.{Outcome.{first_then, happening, ops_of}, Boot.{IsBounded, all_saves, list_from}, declared.course.Opening.{Opening}}
 use Rattle.mc_boot.specs.declared.course.Opening.TheVariants.{New, Resumed}
 use Rattle.mc_boot.specs.facts.Lengths.{length-magic, length-size, length-steps, length-transfers, length_pieces}
@@ -24,9 +24,6 @@ all_saves-append g (x ∷ xs) ys = omega (arith, all_saves-append g xs ys)
 
 none : (g : Geometry) (n m : ℕ) → IsBounded g [] n m
 none g n m = record { at_most = omega arith; saves = omega arith }
-
-wider : (g : Geometry) (ops : List Op) (a b c d : ℕ) → a ≤ c → b ≤ d → IsBounded g ops a b → IsBounded g ops c d
-wider g ops a b c d p q h = record { at_most = omega (arith, h.at_most, p); saves = omega (arith, h.saves, q) }
 
 saves_mapped : (g : Geometry) (f : ℕ → Op) (k : ℕ) → ((i : ℕ) → saves g (f i) ≤ k) → (xs : List ℕ) → all_saves g (map f xs) ≤ length xs * k
 saves_mapped g f k little [] = omega arith
@@ -77,15 +74,7 @@ module _ (g l : Geometry) where
   -- Three trailers, four flags, two sizes and two magics, and all transfers.
   pub course_count : (c : Grain) (n : ℕ) (o : Opening) → length (list_from c l n o)
       ≤ 3 * trailer_sectors l + 4 + 2 * write_count c l (max l.unit 4) + 2 * write_count c l 16 + 3 * n * (l.sector / l.chunk + 2)
-  course_count c n (New kind size) = whole (is_revert kind) (swap_list c l kind size n) (preparation_writes c l size) (swapped c n kind size) (prepared c size)
-    where
-      whole : (b : Bool) (xs ys : List Op) → length xs ≤ 2 * trailer_sectors l + 3 + write_count c l (max l.unit 4) + write_count c l 16 + 3 * n * (l.sector / l.chunk + 2)
-          → length ys ≤ 1 + write_count c l (max l.unit 4) + write_count c l 16
-          → length (if b then trailer_erases l Secondary ++ (ys ++ xs) else xs)
-          ≤ 3 * trailer_sectors l + 4 + 2 * write_count c l (max l.unit 4) + 2 * write_count c l 16 + 3 * n * (l.sector / l.chunk + 2)
-      whole true xs ys p q =
-          omega (arith, p, q, length-append (trailer_erases l Secondary) (ys ++ xs), length-append ys xs, length-map-range_with_len (trailer_erase l Secondary) 0 (trailer_sectors l))
-      whole false xs ys p q = omega (arith, p)
+  course_count c n (New kind size) = grind (arith, swapped, prepared, length-append, length-map-range_with_len)
   course_count c n (Resumed first erases image_ok) = grind (arith, length-append, length-map-range_with_len, length-left n first)
 
   course_saved : (c : Grain) (n : ℕ) (o : Opening) → all_saves g (list_from c l n o) ≤ 3 * (trailer_sectors l * g.sector) + 3 * n * g.sector
@@ -103,32 +92,15 @@ more_sectors : (n most w : ℕ) → n ≤ most → 3 * n * w ≤ 3 * most * w
 more_sectors n most w at_most = mul-le-mul_right w (omega (arith, at_most))
 
 three_sections : (t s n most : ℕ) → n ≤ most → 3 * (t * s) + 3 * n * s ≤ (3 * t + 3 * most) * s
-three_sections t s n most at_most = let more = more_sectors n most s at_most in spread t s (3 * n * s) (3 * most * s) most refl more
-  where
-    spread : (t s x y most : ℕ) → y ≡ 3 * most * s → x ≤ y → 3 * (t * s) + x ≤ (3 * t + 3 * most) * s
-    spread t s x y most is h = let e : (3 * t + 3 * most) * s ≡ 3 * (t * s) + 3 * most * s = omega arith in omega (arith, is, h, e)
+three_sections t s n most at_most = grind arith
 
 -- the units of a size and of a magic
 units : (u : ℕ) → (u ≡ 1) ⊎ (u ≡ 2) ⊎ (u ≡ 4) ⊎ (u ≡ 8) → (max u 4 / u ≤ div_ceil 4 u) × (2 * (16 / u) ≤ 32 / u)
-units u is = elim is [
-  | inl e ↦ rw e (omega arith, omega arith)
-  | inr (inl e) ↦ rw e (omega arith, omega arith)
-  | inr (inr (inl e)) ↦ rw e (omega arith, omega arith)
-  | inr (inr (inr e)) ↦ rw e (omega arith, omega arith)
-]
+units u is = grind arith
 
 course_bounded : (c : Grain) (g : Geometry) (n : ℕ) (o : Opening) → IsLayout g → n ≤ greatest_sectors g → IsBoot c g (list_from c (in_pieces c g) n o)
-course_bounded grains.Call g n o ok few = record {
-  at_most = omega (arith, course_count g g grains.Call n o, more_sectors n (greatest_sectors g) (g.sector / g.chunk + 2) few);
-  saves = omega (arith, course_saved g g grains.Call n o, three_sections (trailer_sectors g) g.sector n (greatest_sectors g) few);
-}
-course_bounded grains.Unit g n o ok few =
-    let count = units g.unit ok.unit in
-    let l : Geometry = in_pieces grains.Unit g in
-    record {
-      at_most = omega (arith, course_count g l grains.Unit n o, more_sectors n (greatest_sectors g) (g.sector / g.unit + 2) few, count.0, count.1);
-      saves = omega (arith, course_saved g l grains.Unit n o, three_sections (trailer_sectors g) g.sector n (greatest_sectors g) few);
-    }
+course_bounded grains.Call g n o ok few = grind (arith, course_count, more_sectors, course_saved, three_sections)
+course_bounded grains.Unit g n o ok few = grind (arith, units, course_count, more_sectors, course_saved, three_sections)
 
 chosen_plan : (c : Grain) (g : Geometry) (b : Bool) (p q : Plan) → (b ≡ true → IsBoot c g p.list) → (b ≡ false → IsBoot c g q.list) → IsBoot c g (if b then p else q).list
 chosen_plan c g it p q when_true when_false = grind arith

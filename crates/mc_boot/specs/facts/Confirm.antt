@@ -1,17 +1,14 @@
 -- What follows for an image that confirms itself. Proved here, so that the crates above can cite it.
-use Rattle.std.specs.Prelude.{◌≡◌, ◌&&◌, Bool, true, false, if◌then◌else◌, Some, None, Result, Ok, Err, OnOk, IfErr}
+use Rattle.std.specs.Prelude.{◌≡◌, Bool, true, false, if◌then◌else◌, Some, None, Result, Ok, Err, OnOk, IfErr}
 use Rattle.std.proofs.Common.{arith, sym, ap, ◌∙◌}
 use Rattle.mc_flash.specs.{Flash.{apply, Content, put, with_bytes}, facts.Done.{did, does_keep, undefined}, Geometry.{Geometry, IsLayout}}
-use Rattle.mc_flash.specs.{Usage.{IsFull, no_counts, Seen, Does, Keeps, Allows, LeaveRoom, Spends, plus}, facts.Spends.{done_notes}}
+use Rattle.mc_flash.specs.{Usage.{no_counts, Seen, Does, Keeps, Allows, LeaveRoom, Spends, plus}, facts.Spends.{done_notes}}
 use Rattle.mc_flash.specs.declared.flash.FlashError.{FlashError}
 use Rattle.mc_flash.specs.declared.flash.FlashError.TheVariants as errors
 use Rattle.mc_flash.specs.declared.op.Slot.TheVariants.{Primary}
 use Rattle.mc_trailer.specs.Trailer.{one_unit, place}
 use Rattle.mc_trailer.specs.declared.places.Field.TheVariants as field
 use Rattle.mc_boot.specs.{Restart.{Confirms, confirmed, may_confirm, one_write}, Plan.{image_ok_write}}
-
-third : (a b c : Bool) → (a && b && c) ≡ true → c ≡ true
-third it b c is = grind arith
 
 -- Where image-ok may be written its write is defined, and it leaves the confirmed content.
 pub confirm_defined : (g : Geometry) (s : Content) → IsLayout g → may_confirm g s ≡ true → apply g (image_ok_write g Primary) s ≡ Some (confirmed g s)
@@ -45,9 +42,6 @@ module _ (old new : Seen) where
 
   pub confirms_counts : (result : Result Bool FlashError) → Confirms old result new → LeaveRoom new.usage.counts no_counts (plus old.usage.counts one_write)
   confirms_counts it c = grind (arith, done_notes)
-
-  not_full : Allows one_write old → IsFull old.geometry (image_ok_write old.geometry Primary) old.usage → ⊥
-  not_full room it = grind arith
 
   pub confirms_spends : (result : Result Bool FlashError) → Confirms old result new → Allows one_write old → Spends 1 old result new
   confirms_spends it c room = grind (arith, done_notes)

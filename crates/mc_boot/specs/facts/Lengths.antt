@@ -6,11 +6,8 @@ use Rattle.byteorder.specs.Endian.{little_bytes}
 use Rattle.mc_boot.specs.Plan.{brought_in, copy_of, entry_of, moved_up, steps, taken_out, transfers, write, write_count}
 use Rattle.mc_boot.specs.declared.transfer.Transfer.{Transfer}
 use Rattle.mc_flash.specs.{Geometry.{Geometry}, declared.flash.Grain.{Grain}, declared.op.Slot.{Slot}}
-use Rattle.mc_trailer.specs.{Trailer.{magic_bytes, size_bytes}, declared.places.Field.{Field}}
+use Rattle.mc_trailer.specs.{Trailer.{magic_bytes, size_bytes}}
 use Rattle.mc_trailer.specs.declared.places.Field.TheVariants as field
-
-pub length-write : (c : Grain) (g : Geometry) (slot : Slot) (f : Field) (new : List ℕ) → length (write c g slot f new) ≡ write_count c g (length new)
-length-write it g slot f new = grind (arith, length-map-range_with_len)
 
 pub length-size_bytes : (g : Geometry) (size : ℕ) → length (size_bytes g size) ≡ max g.unit 4
 length-size_bytes g size = omega (arith, length-append (little_bytes 4 size) (replicate (g.unit - 4) 255), length-replicate {A = ℕ} (g.unit - 4) 255)
@@ -35,7 +32,7 @@ length-transfers g n =
 
 -- the writes of a size and of a magic
 pub length-size : (c : Grain) (g : Geometry) (slot : Slot) (size : ℕ) → length (write c g slot field.SwapSize (size_bytes g size)) ≡ write_count c g (max g.unit 4)
-length-size c g slot size = length-write c g slot field.SwapSize (size_bytes g size) ∙ ap (write_count c g) (length-size_bytes g size)
+length-size c g slot size = (grind (arith, length-map-range_with_len)) ∙ ap (write_count c g) (length-size_bytes g size)
 
 pub length-magic : (c : Grain) (g : Geometry) (slot : Slot) → length (write c g slot field.Magic magic_bytes) ≡ write_count c g 16
-length-magic c g slot = length-write c g slot field.Magic magic_bytes
+length-magic c g slot = grind (arith, length-map-range_with_len)

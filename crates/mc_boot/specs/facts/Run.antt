@@ -1,13 +1,12 @@
 -- What follows from where a boot is on its way. Proved here, so that the crates above can cite it.
-use Rattle.std.specs.Prelude.{◌≡◌, ℕ, zero, suc, ◌+◌, ◌<◌, ◌≤◌, nat_lt, Bool, true, false, if◌then◌else◌, List, [], ◌∷◌, ◌++◌, length, take, drop, Option, Some, None, option_and_then, option_map, Result, Ok, Err, refl}
-use Rattle.std.proofs.{Common.{arith, inl, inr, sym, ap, subst, ◌∙◌}, lemmas.Bool.Decides.{nat_tests}}
+use Rattle.std.specs.Prelude.{◌≡◌, ℕ, zero, suc, ◌+◌, ◌<◌, ◌≤◌, nat_lt, Bool, false, if◌then◌else◌, List, [], ◌∷◌, ◌++◌, length, take, drop, Option, Some, None, option_and_then, option_map, Result, refl}
+use Rattle.std.proofs.{Common.{arith, ap, ◌∙◌}, lemmas.Bool.Decides.{nat_tests}}
 use Rattle.std.proofs.lemmas.List.{length-take-le, length-drop, take_at, append-nil}
 use Rattle.mc_flash.specs.{Geometry.{Geometry}, Flash.{Content, apply}, declared.op.Op.{Op}, declared.flash.FlashError.{FlashError}}
-use Rattle.mc_flash.specs.declared.flash.FlashError.TheVariants as errors
 use Rattle.mc_trailer.specs.declared.tables.Rules.{Rules}
 use Rattle.mc_boot.specs.{Plan.{plan, PowerOn, power_on}, Outcome.{applied, first_then, happening, ops_of, at, is_faulted, left_by, Report, report, outcome_of}}
-use Rattle.mc_boot.specs.Boot.{Progress, begun, stepped, refused, StepsAlong, Steps, HasCome}
-use Rattle.mc_flash.specs.{Usage.{Seen, GivesUp, IsFull}, facts.Done.{did, undefined}}
+use Rattle.mc_boot.specs.Boot.{Progress, begun, Steps, HasCome}
+use Rattle.mc_flash.specs.{Usage.{Seen}, facts.Done.{did, undefined}}
 
 first_happens : (g : Geometry) (op : Op) (ops left : List Op) (s t : Content) (k : ℕ) → ((x : Content) → applied g (take k ops) x ≡ Some t → happening g ops x ≡ take k ops ++ left)
     → (o : Option Content) → option_and_then (λ u. applied g (take k ops) u) o ≡ Some t → first_then op (λ u. happening g ops u) o ≡ op ∷ (take k ops ++ left)
@@ -66,70 +65,12 @@ none_first g op rest t none = ap (λ (o : Option Content). first_then op (λ u. 
 -- A step keeps a boot on its way, and the layout as it is.
 pub come_steps : (r : Rules) (s : Content) (p q : Progress) (old new : Seen) (result : Result (Unit {0}) FlashError) → HasCome (power_on r old.geometry s) p old.content
     → Steps p old result q new → HasCome (power_on r old.geometry s) q new.content
-come_steps r s p q old new result come steps = go p.to_come refl result steps
-  where
-    stays : q ≡ p → new ≡ old → HasCome (power_on r old.geometry s) q new.content
-    stays a b =
-        let P : Progress → Type 0 = λ x. HasCome (power_on r old.geometry s) x new.content in
-        let Q : Seen → Type 0 = λ x. HasCome (power_on r old.geometry s) p x.content in
-        subst P (sym a) (subst Q (sym b) come)
-
-    happens : (rest : List Op) (op : Op) → p.to_come ≡ op ∷ rest → apply old.geometry op old.content ≡ Some new.content → HasCome (power_on r old.geometry s) (stepped p rest) new.content
-    happens rest op to given =
-        let next = next_of p.faulted rest (drop p.count (plan (power_on r old.geometry s)).list) op (sym to ∙ come.rest) in
-        record {
-          rules = come.rules;
-          kind = come.kind;
-          within = omega (arith, more_left (plan (power_on r old.geometry s)).list rest op p.count next.1);
-          happened = ap (λ n. applied old.geometry (take n (plan (power_on r old.geometry s)).list) s) (plus_one p.count)
-              ∙ applied_next old.geometry (plan (power_on r old.geometry s)).list rest op p.count s old.content
-              new.content come.happened next.1 given;
-          rest = left_is p.faulted rest (drop (p.count + 1) (plan (power_on r old.geometry s)).list) next.0
-              (sym (ap (λ n. drop n (plan (power_on r old.geometry s)).list) (plus_one p.count) ∙ drop_next (plan (power_on r old.geometry s)).list rest op p.count next.1));
-          refused = λ e. let q : true ≡ false = sym e ∙ next.0 in absurd cc;
-        }
-
-    refuses : (rest : List Op) (op : Op) → p.to_come ≡ op ∷ rest → apply old.geometry op old.content ≡ None → q ≡ refused p → new ≡ old → HasCome (power_on r old.geometry s) q new.content
-    refuses rest op to none a b =
-        let next = next_of p.faulted rest (drop p.count (plan (power_on r old.geometry s)).list) op (sym to ∙ come.rest) in
-        let P : Progress → Type 0 = λ x. HasCome (power_on r old.geometry s) x new.content in
-        let Q : Seen → Type 0 = λ x. HasCome (power_on r old.geometry s) (refused p) x.content in
-        subst P (sym a) (subst Q (sym b) (record {
-          rules = come.rules;
-          kind = come.kind;
-          within = come.within;
-          happened = come.happened;
-          rest = refl;
-          refused = λ _. (rw next.1 (none_first old.geometry op rest old.content none), more_left (plan (power_on r old.geometry s)).list rest op p.count next.1);
-        }))
-
-    go : (ops : List Op) → p.to_come ≡ ops → (x : Result (Unit {0}) FlashError) → StepsAlong ops p old x q new → HasCome (power_on r old.geometry s) q new.content
-    go [] to (Ok v) done = stays done.0 done.1
-    go [] to (Err e) done = absurd done
-    go (op ∷ rest) to (Ok v) done =
-        let P : Progress → Type 0 = λ y. HasCome (power_on r old.geometry s) y new.content in
-        subst P (sym done.0) (happens rest op to (did op old new done.1.0).applied)
-    go (op ∷ rest) to (Err errors.NotErased) done = refuses rest op to (undefined op old done.1.0) done.0 done.1.1
-    go (op ∷ rest) to (Err errors.Memory) done = wanted done.0 done.1.1
-      where
-        wanted : q ≡ p → GivesUp (IsFull old.geometry op old.usage) old new → HasCome (power_on r old.geometry s) q new.content
-        wanted a (inl kept) = stays a kept.2
-        wanted a (inr lost) =
-            let P : Progress → Type 0 = λ x. HasCome (power_on r old.geometry s) x new.content in
-            let Q : Content → Type 0 = λ x. HasCome (power_on r old.geometry s) p x in
-            subst P (sym a) (subst Q (sym (ap (λ (x : Seen). x.content) lost.1)) come)
+come_steps r s p q old new result come steps = grind (arith, next_of, more_left, plus_one, applied_next, left_is, drop_next, none_first, did, undefined)
 
 -- After what happened nothing more can happen, at the end.
 ends : (x : PowerOn) (p : Progress) (t : Content) → HasCome x p t → p.to_come ≡ []
     → (happening x.geometry (drop p.count (plan x).list) t ≡ []) × (nat_lt p.count (length (plan x).list) ≡ p.faulted)
-ends x p t come end = by_fault p.faulted refl
-  where
-    by_fault : (b : Bool) → p.faulted ≡ b → (happening x.geometry (drop p.count (plan x).list) t ≡ []) × (nat_lt p.count (length (plan x).list) ≡ b)
-    by_fault true e = let f = come.refused e in (f.0, grind (arith, nat_tests))
-    by_fault false e =
-        let left : drop p.count (plan x).list ≡ [] = ap (λ (b : Bool). if b then [] else drop p.count (plan x).list) (sym e) ∙ sym come.rest ∙ end in
-        let all = none_left (plan x).list p.count left in
-        (ap (λ (ops : List Op). happening x.geometry ops t) left, grind (arith, nat_tests))
+ends x p t come end = grind (arith, nat_tests, none_left)
 
 -- What happens of the plan begins with what happened so far, and at the end that is all of it.
 pub come_prefix : (x : PowerOn) (p : Progress) (t : Content) → HasCome x p t
