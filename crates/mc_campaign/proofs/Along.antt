@@ -4,16 +4,15 @@ use Rattle.std.proofs.{Common.{arith, inl, inr, sym, ap, subst, ◌∙◌}, Math
 use Rattle.std.proofs.lemmas.List.{length-take-le, take_all, take_more}
 use Rattle.mc_tree.specs.Tree.{Tree, labelled, landed, RoundNode, round_one, round_two, label, labels}
 use Rattle.mc_tree.specs.{facts.Order.{allowed-last, allowed_prefix, not_same, paths_in_order, pairs_in_order}, facts.Rounds.{inside, outside, pairs_precede}}
-use Rattle.mc_flash.specs.{Flash.{Content}, Geometry.{Geometry, IsLayout}, facts.Usage.{few_operations}}
-use Rattle.mc_trailer.specs.declared.tables.Rules.{Rules}
-use Rattle.mc_boot.specs.{Plan.{power_on}, Outcome.{ops_of}, facts.Bounds.{few_ops}}
-use Rattle.mc_walk.specs.{Walks.{Walked, GoesDown, IsSame, IsThere, origin_of}, facts.Same.{path_back, same_back}}
-use Rattle.mc_explore.specs.{inner.OneRound.{boots}, facts.Summaries.{width_is}, inner.Exploring.{NoAllocationFailed}}
-use Rattle.mc_campaign.specs.{inner.TwoRounds.{cuts_along, rounds, second_start, AreSummaries}, Campaigns.{IsMember}}
+use Rattle.mc_flash.specs.{Geometry.{IsLayout}, Usage.{most_operations}, facts.Usage.{few_operations}}
+use Rattle.mc_campaign.proofs.Ways.{of_second}
+use Rattle.mc_boot.specs.{Plan.{PowerOn, again}, Outcome.{ops_of}, facts.Bounds.{few_ops}}
+use Rattle.mc_walk.specs.{Walks.{Walked, GoesDown, IsSame, IsThere}, facts.Same.{path_back, same_back}}
+use Rattle.mc_explore.specs.{inner.OneRound.{IsOf, boots}, facts.Summaries.{width_is}, inner.Exploring.{NoAllocationFailed}}
+use Rattle.mc_campaign.specs.{inner.TwoRounds.{cuts_along, model_of, rounds, second_start, AreSummaries}, Campaigns.{IsMember}}
 use Rattle.mc_campaign.specs.inner.View.{FollowsCampaign, HasChildOf, IsPathIn, begun_of}
 use Rattle.mc_campaign.specs.declared.campaign.Round.TheVariants as rounds_of
 use Rattle.mc_campaign.specs.{declared.rounds.Both.{Both}, declared.rounds.TwoRounds.{TwoRounds}, facts.Paths.{path_of}}
-use Rattle.mc_campaign.proofs.Replays.{kind_of}
 
 -- ---- labels along a path
 
@@ -47,13 +46,13 @@ last_same {X = X} xs x y e = let q : x ∷ [] ≡ y ∷ [] = sym (drop-append_se
 module _ (c : List (ℕ × ℕ)) (old : Walked TwoRounds) where
   -- The cuts along a path of that walk.
   abbrev cuts : List ℕ → List (ℕ × ℕ)
-  cuts path = cuts_along old.flash_tree.one_round.rules old.flash_tree.one_round.layout old.flash_tree.confirms (origin_of old.seen) path
+  cuts path = cuts_along old.flash_tree.confirms (begun_of old) path
 
-  abbrev tree : Tree (RoundNode Content)
-  tree = rounds old.flash_tree.one_round.rules old.flash_tree.one_round.layout old.flash_tree.confirms
+  abbrev tree : Tree (RoundNode PowerOn)
+  tree = rounds old.flash_tree.confirms
 
-  abbrev name : RoundNode Content → ℕ → ℕ × ℕ
-  name = label (boots old.flash_tree.one_round.rules old.flash_tree.one_round.layout) (second_start old.flash_tree.one_round.rules old.flash_tree.one_round.layout old.flash_tree.confirms)
+  abbrev name : RoundNode PowerOn → ℕ → ℕ × ℕ
+  name = label boots (second_start old.flash_tree.confirms)
 
   -- It has come along so many cuts.
   pub record IsAlong (n : ℕ) (now : Walked TwoRounds) : Type 0 where
@@ -66,39 +65,34 @@ module _ (c : List (ℕ × ℕ)) (old : Walked TwoRounds) where
   pub along_begin : old.stands ≡ true → old.path ≡ [] → IsAlong 0 old
   along_begin stands root = grind arith
 
-  module _ (n : ℕ) (mid : Walked TwoRounds) (a : IsAlong n mid) (inside : n < length c) (summary : Both) (there : IsThere (kind_of mid.flash_tree) mid summary) (number : Option ℕ)
-      (child : (r : Rules) (g : Geometry) (confirms : Bool) (p : RoundNode Content) → IsLayout g → AreSummaries r g confirms p summary → HasChildOf r g confirms p (get_or c n (0, 0)) number)
-      (valid : IsLayout old.flash_tree.one_round.layout) where
+  module _ (n : ℕ) (mid : Walked TwoRounds) (a : IsAlong n mid) (inside : n < length c) (summary : Both) (there : IsThere (model_of mid.flash_tree) mid summary) (number : Option ℕ)
+      (child : (start : PowerOn) (confirms : Bool) (p : RoundNode PowerOn) → IsLayout start.geometry → AreSummaries start confirms p summary → HasChildOf confirms p (get_or c n (0, 0)) number)
+      (valid : IsLayout (begun_of old).geometry) where
     -- The node where it stands.
-    abbrev here : RoundNode Content
-    here = landed tree (round_one (origin_of old.seen)) mid.path
+    abbrev here : RoundNode PowerOn
+    here = landed tree (round_one (begun_of old)) mid.path
 
-    summary_here : AreSummaries old.flash_tree.one_round.rules old.flash_tree.one_round.layout old.flash_tree.confirms here summary
-    summary_here =
-        let P : TwoRounds → Type 0 = λ b. AreSummaries b.one_round.rules b.one_round.layout b.confirms (landed (rounds b.one_round.rules b.one_round.layout b.confirms) (round_one (origin_of
-        mid.seen)) mid.path) summary in
-        let Q : Content → Type 0 = λ s. AreSummaries old.flash_tree.one_round.rules old.flash_tree.one_round.layout old.flash_tree.confirms
-        (landed (rounds old.flash_tree.one_round.rules old.flash_tree.one_round.layout old.flash_tree.confirms) (round_one s) mid.path) summary in
-        subst Q a.same.origin (subst P a.same.flash_tree there.summary_is)
+    summary_here : AreSummaries (begun_of old) old.flash_tree.confirms here summary
+    summary_here = subst (λ (b : TwoRounds). (model_of b).IsSummary (landed (model_of b).tree (model_of b).root mid.path) summary) a.same.flash_tree there.summary_is
 
     abbrev named : ℕ → ℕ × ℕ
     named i = name here i
 
     is_child : (i : ℕ) → IsPathIn old (mid.path ++ i ∷ []) → named i ≡ get_or c n (0, 0) ↔ number ≡ Some i
     is_child i m =
-        child old.flash_tree.one_round.rules old.flash_tree.one_round.layout old.flash_tree.confirms here valid summary_here i (allowed-last tree (round_one (origin_of old.seen)) mid.path i m.1)
+        child (begun_of old) old.flash_tree.confirms here valid summary_here i (allowed-last tree (round_one (begun_of old)) mid.path i m.1)
 
-    pub along_more : (i : ℕ) (went : Bool) (new : Walked TwoRounds) → number ≡ Some i → went ≡ true → GoesDown (kind_of mid.flash_tree) i mid went new
+    pub along_more : (i : ℕ) (went : Bool) (new : Walked TwoRounds) → number ≡ Some i → went ≡ true → GoesDown (model_of mid.flash_tree) i mid went new
         → NoAllocationFailed mid.seen new.seen → IsAlong (n + 1) new
     along_more i false new is e d no_allocation_failed = absurd cc
     along_more i true new is e d no_allocation_failed =
-        let member = path_back kind_of old mid new.path a.same d.1 in
+        let member = path_back model_of old mid new.path a.same d.1 in
         let at = (is_child i (subst (IsPathIn old) d.0 member)).1 is in
         record {
-          cuts_are = ap cuts d.0 ∙ labelled-push tree name (round_one (origin_of old.seen)) mid.path i ∙ ap (λ z. z ++ named i ∷ []) a.cuts_are ∙ ap (λ z. take n c ++ z ∷ []) at
+          cuts_are = ap cuts d.0 ∙ labelled-push tree name (round_one (begun_of old)) mid.path i ∙ ap (λ z. z ++ named i ∷ []) a.cuts_are ∙ ap (λ z. take n c ++ z ∷ []) at
               ∙ sym (take_more c n (0, 0) inside);
           member = member;
-          same = record { flash_tree = d.2.flash_tree ∙ a.same.flash_tree; bound = d.2.bound ∙ a.same.bound; origin = d.2.origin ∙ a.same.origin };
+          same = record { flash_tree = d.2.flash_tree ∙ a.same.flash_tree; bound = d.2.bound ∙ a.same.bound };
           stands = d.3;
           no_allocation_failed = record { limits = no_allocation_failed.limits ∙ a.no_allocation_failed.limits; failed = no_allocation_failed.failed ∙ a.no_allocation_failed.failed };
         }
@@ -106,36 +100,34 @@ module _ (c : List (ℕ × ℕ)) (old : Walked TwoRounds) where
     -- Where the campaign is one of those to go through, there is a child at its next cut.
     next_child : IsMember (begun_of old) old.flash_tree.confirms old.bound c → (j : ℕ) × IsPathIn old (mid.path ++ j ∷ []) × (number ≡ Some j)
     next_child m =
-        let r = old.flash_tree.one_round.rules in
-        let g = old.flash_tree.one_round.layout in
         let k = old.flash_tree.confirms in
-        let s = origin_of old.seen in
-        let p = path_of r g k s old.bound c m in
+        let s = begun_of old in
+        let p = path_of k s old.bound c m in
         let l : List ℕ = p.0 in
         let j : ℕ = get_or l n 0 in
         let len : length l ≡ length c = sym (labelled-length tree name (round_one s) l) ∙ ap (λ z. length z) p.1.cuts_are in
         let below : n < length l = omega (arith, len, inside) in
         let prefix : take n l ≡ mid.path =
-        same_path (boots r g) (second_start r g k) (round_one s) (take n l) mid.path (labelled-take tree name (round_one s) l n ∙ ap (λ z. take n z) p.1.cuts_are ∙ sym a.cuts_are) in
+        same_path boots (second_start k) (round_one s) (take n l) mid.path (labelled-take tree name (round_one s) l n ∙ ap (λ z. take n z) p.1.cuts_are ∙ sym a.cuts_are) in
         let more : take (n + 1) l ≡ mid.path ++ j ∷ [] = take_more l n 0 below ∙ ap (λ z. z ++ j ∷ []) prefix in
         let at : cuts (take (n + 1) l) ≡ take n c ++ get_or c n (0, 0) ∷ [] =
         labelled-take tree name (round_one s) l (n + 1) ∙ ap (λ z. take (n + 1) z) p.1.cuts_are ∙ take_more c n (0, 0) inside in
         let both : take n c ++ named j ∷ [] ≡ take n c ++ get_or c n (0, 0) ∷ [] =
         ap (λ z. z ++ named j ∷ []) (sym a.cuts_are) ∙ sym (labelled-push tree name (round_one s) mid.path j) ∙ ap cuts (sym more) ∙ at in
         let at_most : length (take (n + 1) l) ≤ old.bound = omega (arith, length-take-le (n + 1) l (omega (arith, below)), below, p.1.member.0) in
-        let member : IsPathIn old (mid.path ++ j ∷ []) = subst (IsPathIn old) more (at_most, allowed_prefix (rounds r g k) (round_one s) l (n + 1) p.1.member.1) in
+        let member : IsPathIn old (mid.path ++ j ∷ []) = subst (IsPathIn old) more (at_most, allowed_prefix (rounds k) (round_one s) l (n + 1) p.1.member.1) in
         (j, member, (is_child j member).0 (last_same (take n c) (named j) (get_or c n (0, 0)) both))
 
     pub none_there : number ≡ None → IsMember (begun_of old) old.flash_tree.confirms old.bound c → ⊥
     none_there none m = let next = next_child m in let is : number ≡ Some next.0 = next.2 in absurd cc
 
-    pub stops_there : (i : ℕ) (went : Bool) (new : Walked TwoRounds) → number ≡ Some i → went ≡ false → GoesDown (kind_of mid.flash_tree) i mid went new
+    pub stops_there : (i : ℕ) (went : Bool) (new : Walked TwoRounds) → number ≡ Some i → went ≡ false → GoesDown (model_of mid.flash_tree) i mid went new
         → IsMember (begun_of old) old.flash_tree.confirms old.bound c → ⊥
     stops_there i true new is e d m = absurd cc
     stops_there i false new is e d m =
         let next = next_child m in
         let same : next.0 ≡ i = let q : Some next.0 ≡ Some i = sym next.2 ∙ is in cc in
-        d.0 (path_back kind_of mid old (mid.path ++ i ∷ []) (same_back kind_of old mid a.same) (subst (λ x. IsPathIn old (mid.path ++ x ∷ [])) same next.1))
+        d.0 (path_back model_of mid old (mid.path ++ i ∷ []) (same_back model_of old mid a.same) (subst (λ x. IsPathIn old (mid.path ++ x ∷ [])) same next.1))
 
   -- It has come to the end.
   pub along_all : (n : ℕ) (now : Walked TwoRounds) → IsAlong n now → length c ≤ n → FollowsCampaign old c true now
@@ -143,13 +135,17 @@ module _ (c : List (ℕ × ℕ)) (old : Walked TwoRounds) where
 
 -- ---- the child at a cut
 
-module _ (r : Rules) (g : Geometry) (confirms : Bool) (valid : IsLayout g) (summary : Both) where
+module _ (start : PowerOn) (confirms : Bool) (valid : IsLayout start.geometry) (summary : Both) where
   -- A child of the first round, and one of the second, by its label.
-  label_early : (s : Content) (i : ℕ) → i < length (ops_of (power_on r g s)) → label (boots r g) (second_start r g confirms) (round_one s) i ≡ (1, i)
-  label_early s i lt = ap (λ b. if b then (1, i) else (2, i - length (ops_of (power_on r g s)))) (inside (length (ops_of (power_on r g s))) i lt)
+  label_early : (s : PowerOn) (i : ℕ) → i < length (ops_of s) → label boots (second_start confirms) (round_one s) i ≡ (1, i)
+  label_early s i lt = ap (λ b. if b then (1, i) else (2, i - length (ops_of s))) (inside (length (ops_of s)) i lt)
 
-  label_late : (s : Content) (i : ℕ) → length (ops_of (power_on r g s)) ≤ i → label (boots r g) (second_start r g confirms) (round_one s) i ≡ (2, i - length (ops_of (power_on r g s)))
-  label_late s i le = ap (λ b. if b then (1, i) else (2, i - length (ops_of (power_on r g s)))) (outside (length (ops_of (power_on r g s))) i le)
+  label_late : (s : PowerOn) (i : ℕ) → length (ops_of s) ≤ i → label boots (second_start confirms) (round_one s) i ≡ (2, i - length (ops_of s))
+  label_late s i le = ap (λ b. if b then (1, i) else (2, i - length (ops_of s))) (outside (length (ops_of s)) i le)
+
+  -- A boot of that start makes few operations.
+  few_at : (s : PowerOn) → IsOf start s → length (ops_of s) ≤ most_operations start.rules.grain start.geometry
+  few_at s of = omega (arith, few_ops (again start s.content) valid, ap (λ (y : PowerOn). length (ops_of y)) of)
 
   pair_is : (cut : ℕ × ℕ) (n i : ℕ) → cut.0 ≡ n → cut.1 ≡ i → (n, i) ≡ cut
   pair_is (a, b) n i one two = cc
@@ -157,22 +153,22 @@ module _ (r : Rules) (g : Geometry) (confirms : Bool) (valid : IsLayout g) (summ
   same_some : (x y : ℕ) → Some x ≡ Some y → x ≡ y
   same_some x y e = cc
 
-  module _ (p : RoundNode Content) (round : summary.round ≡ rounds_of.First) (t : AreSummaries r g confirms p summary) (cut : ℕ × ℕ) where
+  module _ (p : RoundNode PowerOn) (round : summary.round ≡ rounds_of.First) (t : AreSummaries start confirms p summary) (cut : ℕ × ℕ) where
     -- It is a node of the first round, whose boot makes so many operations.
     abbrev IsFirst : Type 0
-    IsFirst = (s : Content) × (p ≡ round_one s) × (summary.first.outcome.ops ≡ length (ops_of (power_on r g s)))
+    IsFirst = (s : PowerOn) × (p ≡ round_one s) × (summary.first.outcome.ops ≡ length (ops_of s)) × IsOf start s
 
     is_first : IsFirst
     is_first = by p t
       where
-        by : (q : RoundNode Content) → AreSummaries r g confirms q summary → (s : Content) × (q ≡ round_one s) × (summary.first.outcome.ops ≡ length (ops_of (power_on r g s)))
-        by (round_one s) u = (s, refl, width_is r g summary.first s u.first_is)
+        by : (q : RoundNode PowerOn) → AreSummaries start confirms q summary → (s : PowerOn) × (q ≡ round_one s) × (summary.first.outcome.ops ≡ length (ops_of s)) × IsOf start s
+        by (round_one s) u = (s, refl, width_is s summary.first u.first_is.1, u.first_is.0)
         by (round_two began s) u = absurd (let no : rounds_of.First ≡ rounds_of.Second = sym round ∙ u.round_is in cc)
 
-    pub early : cut.0 ≡ 1 → cut.1 < summary.first.outcome.ops → HasChildOf r g confirms p cut (Some cut.1)
+    pub early : cut.0 ≡ 1 → cut.1 < summary.first.outcome.ops → HasChildOf confirms p cut (Some cut.1)
     early one lt =
         let f = is_first in
-        subst (λ q. HasChildOf r g confirms q cut (Some cut.1)) (sym f.1) (λ i some. elim (cases_lt i (length (ops_of (power_on r g f.0)))) [
+        subst (λ q. HasChildOf confirms q cut (Some cut.1)) (sym f.1) (λ i some. elim (cases_lt i (length (ops_of f.0))) [
           | inl below ↦ (λ e. ap (λ (z : ℕ × ℕ). Some z.1) (sym e ∙ label_early f.0 i below), λ e. let same = same_some cut.1 i e in label_early f.0 i below ∙ pair_is cut 1 i one same)
           | inr above ↦ (
             λ e. absurd (let no : 2 ≡ cut.0 = ap (λ (z : ℕ × ℕ). z.0) (sym (label_late f.0 i above) ∙ e) in omega (arith, no, one)),
@@ -180,36 +176,36 @@ module _ (r : Rules) (g : Geometry) (confirms : Bool) (valid : IsLayout g) (summ
           )
         ])
 
-    pub too_late : cut.0 ≡ 1 → summary.first.outcome.ops ≤ cut.1 → HasChildOf r g confirms p cut None
+    pub too_late : cut.0 ≡ 1 → summary.first.outcome.ops ≤ cut.1 → HasChildOf confirms p cut None
     too_late one le =
         let f = is_first in
-        subst (λ q. HasChildOf r g confirms q cut None) (sym f.1) (λ i some. elim (cases_lt i (length (ops_of (power_on r g f.0)))) [
+        subst (λ q. HasChildOf confirms q cut None) (sym f.1) (λ i some. elim (cases_lt i (length (ops_of f.0))) [
           | inl below ↦ (λ e. absurd (let no : i ≡ cut.1 = ap (λ (z : ℕ × ℕ). z.1) (sym (label_early f.0 i below) ∙ e) in omega (arith, no, below, le, f.2)), λ e. absurd cc)
           | inr above ↦ (λ e. absurd (let no : 2 ≡ cut.0 = ap (λ (z : ℕ × ℕ). z.0) (sym (label_late f.0 i above) ∙ e) in omega (arith, no, one)), λ e. absurd cc)
         ])
 
-    pub beyond_first : cut.0 ≡ 2 → (number : Option ℕ) → SomeIff number (summary.first.outcome.ops + cut.1 < 2 ^ 32) (summary.first.outcome.ops + cut.1) → HasChildOf r g confirms p cut number
+    pub beyond_first : cut.0 ≡ 2 → (number : Option ℕ) → SomeIff number (summary.first.outcome.ops + cut.1 < 2 ^ 32) (summary.first.outcome.ops + cut.1) → HasChildOf confirms p cut number
     beyond_first two number sum =
         let f = is_first in
-        subst (λ q. HasChildOf r g confirms q cut number) (sym f.1) (λ i some. elim (cases_lt i (length (ops_of (power_on r g f.0)))) [
+        subst (λ q. HasChildOf confirms q cut number) (sym f.1) (λ i some. elim (cases_lt i (length (ops_of f.0))) [
           | inl below ↦ (
             λ e. absurd (let no : 1 ≡ cut.0 = ap (λ (z : ℕ × ℕ). z.0) (sym (label_early f.0 i below) ∙ e) in omega (arith, no, two)),
             λ e. absurd (omega (arith, (there number sum i e).1, below, f.2)),
           )
           | inr above ↦ (
             λ e.
-                let index : i - length (ops_of (power_on r g f.0)) ≡ cut.1 = ap (λ (z : ℕ × ℕ). z.1) (sym (label_late f.0 i above) ∙ e) in
+                let index : i - length (ops_of f.0) ≡ cut.1 = ap (λ (z : ℕ × ℕ). z.1) (sym (label_late f.0 i above) ∙ e) in
                 let sum_is : summary.first.outcome.ops + cut.1 ≡ i = omega (arith, index, above, f.2) in
                 some_there number sum i sum_is (omega (
                   arith,
                   some,
-                  few_ops (power_on r g f.0) valid,
-                  few_ops (power_on r g (second_start r g confirms f.0)) valid,
-                  few_operations r.grain g valid,
+                  few_at f.0 f.3,
+                  few_at (second_start confirms f.0) (of_second start confirms f.0 f.3),
+                  few_operations start.rules.grain start.geometry valid,
                 )),
             λ e.
-                let index : cut.1 ≡ i - length (ops_of (power_on r g f.0)) = omega (arith, (there number sum i e).1, f.2) in
-                label_late f.0 i above ∙ pair_is cut 2 (i - length (ops_of (power_on r g f.0))) two index,
+                let index : cut.1 ≡ i - length (ops_of f.0) = omega (arith, (there number sum i e).1, f.2) in
+                label_late f.0 i above ∙ pair_is cut 2 (i - length (ops_of f.0)) two index,
           )
         ])
       where

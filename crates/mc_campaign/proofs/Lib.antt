@@ -4,7 +4,6 @@ mod Steps
 mod Restarts
 mod CutsInRounds
 mod Loaded
-mod Starting
 pub mod Replays
 mod Along
 pub mod Reading

@@ -2,187 +2,198 @@
 use Rattle.std.specs.Prelude.{◌≡◌, ℕ, ◌+◌, ◌<◌, ◌≤◌, min, Bool, length, Some, Result, Ok, Err, IfOk, refl}
 use Rattle.std.proofs.Common.{arith, sym, ap, subst, ◌∙◌}
 use Rattle.mc_tree.specs.Tree.{RoundNode, round_one, round_two}
-use Rattle.mc_flash.specs.{Flash.{Content}, Geometry.{Geometry, IsLayout}, Usage.{Counts, no_counts, Seen, Allows, LeaveRoom, plus}}
+use Rattle.mc_flash.specs.{Geometry.{IsLayout}, Usage.{Counts, no_counts, Seen, Allows, LeaveRoom, plus}}
 use Rattle.mc_flash.specs.facts.Usage.{few_operations}
-use Rattle.mc_trailer.specs.declared.tables.Rules.{Rules}
 use Rattle.mc_boot.specs.{Boot.{progress, left_of}, facts.Bounds.{few_ops}, Restart.{confirmed_if, one_write}, Outcome.{left_by, ops_of}}
 use Rattle.mc_boot.specs.declared.boot.Boot.{Boot}
 use Rattle.mc_walk.specs.TreeModel.{IsAt, IsChild, IsChildSummary}
-use Rattle.mc_explore.specs.{inner.OneRound.{at_cut, CanPass, CountsAtMost, IsSummary, LeavesAlike, most_of, one_round}, facts.Occurring.{at_zero}}
-use Rattle.mc_explore.specs.{facts.Summaries.{first_left, width_is}, declared.one_round.Summary.{Summary}}
-use Rattle.mc_campaign.specs.inner.TwoRounds.{AreSummaries, content_at, left_of_child_boot, most_of_both, owed_at, two_rounds_model}
+use Rattle.mc_explore.specs.{inner.OneRound.{IsOf, at_cut, CanPass, CountsAtMost, IsSummary, LeavesAlike, most_of, one_round}, facts.Occurring.{at_zero}}
+use Rattle.mc_explore.specs.{facts.Summaries.{first_left, first_on, width_is}, declared.one_round.Summary.{Summary}}
+use Rattle.mc_campaign.specs.inner.TwoRounds.{AreSummaries, second_start, boot_at, left_of_child_boot, most_of_both, owed_at, two_rounds_model}
 use Rattle.mc_campaign.specs.declared.campaign.Round.TheVariants as rounds_of
 use Rattle.mc_campaign.specs.{declared.rounds.Both.{Both}, declared.rounds.ChildBoot.{ChildBoot}}
 use Rattle.mc_campaign.specs.declared.rounds.ChildBoot.TheVariants as child_boots
-use Rattle.mc_campaign.proofs.Ways.{at_begin, at_first, between, between_left, child, first_at, first_child, same_start, width}
-use Rattle.mc_boot.specs.Plan.{power_on}
+use Rattle.mc_campaign.proofs.Ways.{at_begin, at_first, between, between_left, child, first_at, first_child, of_second, same_start, width}
+use Rattle.mc_boot.specs.Plan.{PowerOn, again}
 
 -- ---- the room of two rounds
 
 -- Where the first round is over there is room for the write between them, and then for the second.
-module _ (r : Rules) (g : Geometry) (old mid : Seen) (room : Allows (most_of_both r g) old) (counts : CountsAtMost (most_of r g) old mid) (limits : mid.usage.limits ≡ old.usage.limits) where
+module _ (start : PowerOn) (old mid : Seen) (room : Allows (most_of_both start) old) (counts : CountsAtMost (most_of start) old mid) (limits : mid.usage.limits ≡ old.usage.limits) where
   pub write_room : Allows one_write mid
   write_room = grind arith
 
-  pub second_room : (new : Seen) → LeaveRoom new.usage.counts no_counts (plus mid.usage.counts one_write) → new.usage.limits ≡ mid.usage.limits → Allows (most_of r g) new
+  pub second_room : (new : Seen) → LeaveRoom new.usage.counts no_counts (plus mid.usage.counts one_write) → new.usage.limits ≡ mid.usage.limits → Allows (most_of start) new
   second_room new write same = grind arith
 
-module _ (r : Rules) (g : Geometry) (confirms : Bool) where
+module _ (start : PowerOn) (confirms : Bool) where
+  -- A node of the start has its layout.
+  geometry_of : (s : PowerOn) → IsOf start s → start.geometry ≡ s.geometry
+  geometry_of s of = sym (ap (λ (y : PowerOn). y.geometry) of)
+
+  left_at : (s : PowerOn) (summary : Summary) → (one_round start).IsSummary s summary → (old : Counts) → LeaveRoom old (left_of start.geometry (progress summary.boot)) (plus old (most_of start))
+  left_at s summary is old =
+      let P : PowerOn → Type 0 = λ y. LeaveRoom old (left_of y.geometry (progress summary.boot)) (plus old (most_of y)) in
+      subst P is.0 (first_left s summary is.1 old)
+
   -- ---- the first
 
-  pub begins_first : (p : RoundNode Content) (summary : Both) (seen : Seen) → summary.round ≡ rounds_of.First → 0 < summary.first.outcome.ops → AreSummaries r g confirms p summary
-      → seen.content ≡ content_at p → seen.geometry ≡ g
-      → IsAt (two_rounds_model r g confirms) p 0 (child_boots.First summary.first.boot summary.first.outcome.ops summary.second) seen
-  begins_first (round_one s) summary seen round some t content layout = grind (arith, width_is, at_zero)
+  pub begins_first : (p : RoundNode PowerOn) (summary : Both) (seen : Seen) → summary.round ≡ rounds_of.First → 0 < summary.first.outcome.ops → AreSummaries start confirms p summary
+      → seen.content ≡ (boot_at p).content → seen.geometry ≡ start.geometry
+      → IsAt (two_rounds_model start confirms) p 0 (child_boots.First summary.first.boot summary.first.outcome.ops summary.second) seen
+  begins_first (round_one s) summary seen round some t content layout =
+      let ops = width_is s summary.first t.first_is.1 in
+      let at : IsAt (one_round start) s 0 summary.first.boot seen = record { on_is = (t.first_is.0, first_on s summary.first t.first_is.1); content_is = content ∙ at_zero s; layout_is = layout } in
+      at_first start confirms s 0 summary.first.boot summary.first.outcome.ops summary.second seen at (omega (arith, some, ops)) ops t.second_is
   begins_first (round_two began s) summary seen round some t content layout = let not_so : rounds_of.First ≡ rounds_of.Second = sym round ∙ t.round_is in absurd cc
 
   -- Where the first round has no operation its boot is over.
-  pub begins_beyond : (p : RoundNode Content) (summary : Both) (old new : Seen) → summary.round ≡ rounds_of.First → summary.first.outcome.ops ≤ 0 → AreSummaries r g confirms p summary
-      → old.content ≡ content_at p → old.geometry ≡ g
-      → new.content ≡ confirmed_if confirms old.geometry old.content → new.geometry ≡ old.geometry → IsAt (two_rounds_model r g confirms) p 0 (child_boots.Second summary.second.boot) new
+  pub begins_beyond : (p : RoundNode PowerOn) (summary : Both) (old new : Seen) → summary.round ≡ rounds_of.First → summary.first.outcome.ops ≤ 0 → AreSummaries start confirms p summary
+      → old.content ≡ (boot_at p).content → old.geometry ≡ start.geometry
+      → new.content ≡ confirmed_if confirms old.geometry old.content → new.geometry ≡ old.geometry → IsAt (two_rounds_model start confirms) p 0 (child_boots.Second summary.second.boot) new
   begins_beyond (round_one s) summary old new round none t content layout is same =
-      let ops = width_is r g summary.first s t.first_is in
-      let zero : 0 ≡ length (ops_of (power_on r g s)) = omega (arith, none, ops) in
-      at_begin r g confirms (round_one s) 0 summary.second new (omega (arith, zero)) (omega (arith, zero))
-      (between r g confirms s new.content old layout (content ∙ at_zero (power_on r g s) ∙ ap (at_cut (power_on r g s)) zero) is)
+      let ops = width_is s summary.first t.first_is.1 in
+      let zero : 0 ≡ length (ops_of s) = omega (arith, none, ops) in
+      at_begin start confirms (round_one s) 0 summary.second new (omega (arith, zero)) (omega (arith, zero))
+      (between confirms s new.content old (layout ∙ geometry_of s t.first_is.0) (content ∙ at_zero s ∙ ap (at_cut s) zero) is)
       (same ∙ layout) t.second_is
   begins_beyond (round_two began s) summary old new round none t content layout is same = let not_so : rounds_of.First ≡ rounds_of.Second = sym round ∙ t.round_is in absurd cc
 
-  pub begins_second : (p : RoundNode Content) (summary : Both) (seen : Seen) → summary.round ≡ rounds_of.Second → AreSummaries r g confirms p summary → seen.content ≡ content_at p → seen.geometry ≡ g
-      → IsAt (two_rounds_model r g confirms) p 0 (child_boots.Second summary.second.boot) seen
+  pub begins_second : (p : RoundNode PowerOn) (summary : Both) (seen : Seen) → summary.round ≡ rounds_of.Second → AreSummaries start confirms p summary → seen.content ≡ (boot_at p).content
+      → seen.geometry ≡ start.geometry → IsAt (two_rounds_model start confirms) p 0 (child_boots.Second summary.second.boot) seen
   begins_second (round_one s) summary seen round t content layout = let not_so : rounds_of.First ≡ rounds_of.Second = sym t.round_is ∙ round in absurd cc
-  begins_second (round_two began s) summary seen round t content layout = at_begin r g confirms (round_two began s) 0 summary.second seen tt refl content layout t.second_is
+  begins_second (round_two began s) summary seen round t content layout = at_begin start confirms (round_two began s) 0 summary.second seen tt refl content layout t.second_is
 
   -- What is left then is no more than was owed.
-  pub left_first : (p : RoundNode Content) (summary : Both) (old : Counts) → summary.round ≡ rounds_of.First → AreSummaries r g confirms p summary
-      → LeaveRoom old (left_of_child_boot r g (child_boots.First summary.first.boot summary.first.outcome.ops summary.second)) (plus old (owed_at r g p))
+  pub left_first : (p : RoundNode PowerOn) (summary : Both) (old : Counts) → summary.round ≡ rounds_of.First → AreSummaries start confirms p summary
+      → LeaveRoom old (left_of_child_boot start (child_boots.First summary.first.boot summary.first.outcome.ops summary.second)) (plus old (owed_at start p))
   left_first (round_one s) summary old round t = grind arith
   left_first (round_two began s) summary old round t = let not_so : rounds_of.First ≡ rounds_of.Second = sym round ∙ t.round_is in absurd cc
 
-  pub left_beyond : (p : RoundNode Content) (summary : Both) (old new : Counts) → summary.round ≡ rounds_of.First → AreSummaries r g confirms p summary → LeaveRoom new no_counts (plus old one_write)
-      → LeaveRoom new (left_of_child_boot r g (child_boots.Second summary.second.boot)) (plus old (owed_at r g p))
+  pub left_beyond : (p : RoundNode PowerOn) (summary : Both) (old new : Counts) → summary.round ≡ rounds_of.First → AreSummaries start confirms p summary → LeaveRoom new no_counts (plus old one_write)
+      → LeaveRoom new (left_of_child_boot start (child_boots.Second summary.second.boot)) (plus old (owed_at start p))
   left_beyond (round_one s) summary old new round t more = grind arith
   left_beyond (round_two began s) summary old new round t more = let not_so : rounds_of.First ≡ rounds_of.Second = sym round ∙ t.round_is in absurd cc
 
-  pub left_second : (p : RoundNode Content) (summary : Both) (old : Counts) → summary.round ≡ rounds_of.Second → AreSummaries r g confirms p summary
-      → LeaveRoom old (left_of_child_boot r g (child_boots.Second summary.second.boot)) (plus old (owed_at r g p))
+  pub left_second : (p : RoundNode PowerOn) (summary : Both) (old : Counts) → summary.round ≡ rounds_of.Second → AreSummaries start confirms p summary
+      → LeaveRoom old (left_of_child_boot start (child_boots.Second summary.second.boot)) (plus old (owed_at start p))
   left_second (round_one s) summary old round t = let not_so : rounds_of.First ≡ rounds_of.Second = sym t.round_is ∙ round in absurd cc
-  left_second (round_two began s) summary old round t = first_left r g s summary.second t.second_is old
+  left_second (round_two began s) summary old round t = left_at s summary.second t.second_is old
 
   -- ---- the next
 
-  pub first_passes : (p : RoundNode Content) (i : ℕ) (boot : Boot) (ops : ℕ) (later : Summary) (seen : Seen) → IsAt (two_rounds_model r g confirms) p i (child_boots.First boot ops later) seen
-      → Allows (left_of_child_boot r g (child_boots.First boot ops later)) seen → CanPass r g boot seen
+  pub first_passes : (p : RoundNode PowerOn) (i : ℕ) (boot : Boot) (ops : ℕ) (later : Summary) (seen : Seen) → IsAt (two_rounds_model start confirms) p i (child_boots.First boot ops later) seen
+      → Allows (left_of_child_boot start (child_boots.First boot ops later)) seen → CanPass start boot seen
   first_passes (round_one s) i boot ops later seen at room = grind arith
   first_passes (round_two began s) i boot ops later seen at room = absurd at.on_is
 
-  pub second_passes : (p : RoundNode Content) (i : ℕ) (boot : Boot) (seen : Seen) → IsAt (two_rounds_model r g confirms) p i (child_boots.Second boot) seen → i < width r g confirms p
-      → Allows (left_of_child_boot r g (child_boots.Second boot)) seen → CanPass r g boot seen
+  pub second_passes : (p : RoundNode PowerOn) (i : ℕ) (boot : Boot) (seen : Seen) → IsAt (two_rounds_model start confirms) p i (child_boots.Second boot) seen → i < width confirms p
+      → Allows (left_of_child_boot start (child_boots.Second boot)) seen → CanPass start boot seen
   second_passes p i boot seen at early room = grind arith
 
-  pub next_first : (p : RoundNode Content) (i : ℕ) (boot boot' : Boot) (ops : ℕ) (later : Summary) (old new : Seen) → IsAt (two_rounds_model r g confirms) p i (child_boots.First boot ops later) old
-      → ((s : Content) (j : ℕ) → IsAt (one_round r g) s j boot old → j < length (ops_of (power_on r g s)) → IsAt (one_round r g) s (j + 1) boot' new) → boot'.done < ops
-      → IsAt (two_rounds_model r g confirms) p (i + 1) (child_boots.First boot' ops later) new
+  pub next_first : (p : RoundNode PowerOn) (i : ℕ) (boot boot' : Boot) (ops : ℕ) (later : Summary) (old new : Seen) → IsAt (two_rounds_model start confirms) p i (child_boots.First boot ops later) old
+      → ((s : PowerOn) (j : ℕ) → IsAt (one_round start) s j boot old → j < length (ops_of s) → IsAt (one_round start) s (j + 1) boot' new) → boot'.done < ops
+      → IsAt (two_rounds_model start confirms) p (i + 1) (child_boots.First boot' ops later) new
   next_first (round_one s) i boot boot' ops later old new at passes more =
-      let there = passes s i (first_at r g confirms s i boot ops later old at) at.on_is.early in
-      at_first r g confirms s (i + 1) boot' ops later new there (omega (arith, more, there.on_is.count_is, at.on_is.ops_is)) at.on_is.ops_is at.on_is.later_is
+      let there = passes s i (first_at start confirms s i boot ops later old at) at.on_is.early in
+      at_first start confirms s (i + 1) boot' ops later new there (omega (arith, more, there.on_is.1.count_is, at.on_is.ops_is)) at.on_is.ops_is at.on_is.later_is
   next_first (round_two began s) i boot boot' ops later old new at passes more = absurd at.on_is
 
-  pub next_between : (p : RoundNode Content) (i : ℕ) (boot boot' : Boot) (ops : ℕ) (later : Summary) (old mid new : Seen)
-      → IsAt (two_rounds_model r g confirms) p i (child_boots.First boot ops later) old
-      → ((s : Content) (j : ℕ) → IsAt (one_round r g) s j boot old → j < length (ops_of (power_on r g s)) → IsAt (one_round r g) s (j + 1) boot' mid) → ops ≤ boot'.done
-      → new.content ≡ confirmed_if confirms mid.geometry mid.content → new.geometry ≡ mid.geometry → IsAt (two_rounds_model r g confirms) p (i + 1) (child_boots.Second later.boot) new
+  pub next_between : (p : RoundNode PowerOn) (i : ℕ) (boot boot' : Boot) (ops : ℕ) (later : Summary) (old mid new : Seen)
+      → IsAt (two_rounds_model start confirms) p i (child_boots.First boot ops later) old
+      → ((s : PowerOn) (j : ℕ) → IsAt (one_round start) s j boot old → j < length (ops_of s) → IsAt (one_round start) s (j + 1) boot' mid) → ops ≤ boot'.done
+      → new.content ≡ confirmed_if confirms mid.geometry mid.content → new.geometry ≡ mid.geometry → IsAt (two_rounds_model start confirms) p (i + 1) (child_boots.Second later.boot) new
   next_between (round_one s) i boot boot' ops later old mid new at passes over is same =
-      let there = passes s i (first_at r g confirms s i boot ops later old at) at.on_is.early in
-      let all : i + 1 ≡ length (ops_of (power_on r g s)) = omega (arith, over, there.on_is.count_is, at.on_is.ops_is, at.on_is.early) in
-      at_begin r g confirms (round_one s) (i + 1) later new (omega (arith, all)) (omega (arith, all))
-      (between r g confirms s new.content mid there.layout_is (there.content_is ∙ ap (at_cut (power_on r g s)) all) is)
+      let there = passes s i (first_at start confirms s i boot ops later old at) at.on_is.early in
+      let all : i + 1 ≡ length (ops_of s) = omega (arith, over, there.on_is.1.count_is, at.on_is.ops_is, at.on_is.early) in
+      at_begin start confirms (round_one s) (i + 1) later new (omega (arith, all)) (omega (arith, all))
+      (between confirms s new.content mid (there.layout_is ∙ geometry_of s there.on_is.0) (there.content_is ∙ ap (at_cut s) all) is)
       (same ∙ there.layout_is) at.on_is.later_is
   next_between (round_two began s) i boot boot' ops later old mid new at passes over is same = absurd at.on_is
 
-  pub next_second : (p : RoundNode Content) (i : ℕ) (boot boot' : Boot) (old new : Seen) → IsAt (two_rounds_model r g confirms) p i (child_boots.Second boot) old
-      → ((s : Content) (j : ℕ) → IsAt (one_round r g) s j boot old → j < length (ops_of (power_on r g s)) → IsAt (one_round r g) s (j + 1) boot' new) → i < width r g confirms p
-      → IsAt (two_rounds_model r g confirms) p (i + 1) (child_boots.Second boot') new
+  pub next_second : (p : RoundNode PowerOn) (i : ℕ) (boot boot' : Boot) (old new : Seen) → IsAt (two_rounds_model start confirms) p i (child_boots.Second boot) old
+      → ((s : PowerOn) (j : ℕ) → IsAt (one_round start) s j boot old → j < length (ops_of s) → IsAt (one_round start) s (j + 1) boot' new) → i < width confirms p
+      → IsAt (two_rounds_model start confirms) p (i + 1) (child_boots.Second boot') new
   next_second p i boot boot' old new at passes early = grind arith
 
   -- What they count.
-  pub counts_first : (boot boot' : Boot) (ops : ℕ) (later : Summary) (old new : Counts) → LeaveRoom new (left_of g (progress boot')) (plus old (left_of g (progress boot)))
-      → LeaveRoom new (left_of_child_boot r g (child_boots.First boot' ops later)) (plus old (left_of_child_boot r g (child_boots.First boot ops later)))
+  pub counts_first : (boot boot' : Boot) (ops : ℕ) (later : Summary) (old new : Counts) → LeaveRoom new (left_of start.geometry (progress boot')) (plus old (left_of start.geometry (progress boot)))
+      → LeaveRoom new (left_of_child_boot start (child_boots.First boot' ops later)) (plus old (left_of_child_boot start (child_boots.First boot ops later)))
   counts_first boot boot' ops later old new c = record { entries = omega (arith, c.entries); saved = omega (arith, c.saved) }
 
-  pub counts_between : (p : RoundNode Content) (i : ℕ) (boot boot' : Boot) (ops : ℕ) (later : Summary) (seen : Seen) (old mid new : Counts)
-      → IsAt (two_rounds_model r g confirms) p i (child_boots.First boot ops later) seen
-      → LeaveRoom mid (left_of g (progress boot')) (plus old (left_of g (progress boot))) → LeaveRoom new no_counts (plus mid one_write)
-      → LeaveRoom new (left_of_child_boot r g (child_boots.Second later.boot)) (plus old (left_of_child_boot r g (child_boots.First boot ops later)))
+  pub counts_between : (p : RoundNode PowerOn) (i : ℕ) (boot boot' : Boot) (ops : ℕ) (later : Summary) (seen : Seen) (old mid new : Counts)
+      → IsAt (two_rounds_model start confirms) p i (child_boots.First boot ops later) seen
+      → LeaveRoom mid (left_of start.geometry (progress boot')) (plus old (left_of start.geometry (progress boot))) → LeaveRoom new no_counts (plus mid one_write)
+      → LeaveRoom new (left_of_child_boot start (child_boots.Second later.boot)) (plus old (left_of_child_boot start (child_boots.First boot ops later)))
   counts_between (round_one s) i boot boot' ops later seen old mid new at c d = grind arith
   counts_between (round_two began s) i boot boot' ops later seen old mid new at c d = absurd at.on_is
 
   -- There is room for the write between the rounds.
-  pub room_between : (boot boot' : Boot) (ops : ℕ) (later : Summary) (old mid : Seen) → Allows (left_of_child_boot r g (child_boots.First boot ops later)) old
-      → LeaveRoom mid.usage.counts (left_of g (progress boot')) (plus old.usage.counts (left_of g (progress boot))) → mid.usage.limits ≡ old.usage.limits → Allows one_write mid
+  pub room_between : (boot boot' : Boot) (ops : ℕ) (later : Summary) (old mid : Seen) → Allows (left_of_child_boot start (child_boots.First boot ops later)) old
+      → LeaveRoom mid.usage.counts (left_of start.geometry (progress boot')) (plus old.usage.counts (left_of start.geometry (progress boot)))
+      → mid.usage.limits ≡ old.usage.limits → Allows one_write mid
   room_between boot boot' ops later old mid room c same = grind arith
 
   -- ---- the summary of a child
 
-  pub parent_first : (p : RoundNode Content) (i : ℕ) (boot : Boot) (ops : ℕ) (later : Summary) (parent : Both) (seen : Seen)
-      → IsAt (two_rounds_model r g confirms) p i (child_boots.First boot ops later) seen
-      → AreSummaries r g confirms p parent → IsChild (one_round r g) boot parent.first seen
-  parent_first (round_one s) i boot ops later parent seen at t = (s, i, first_at r g confirms s i boot ops later seen at, at.on_is.early, t.first_is)
+  pub parent_first : (p : RoundNode PowerOn) (i : ℕ) (boot : Boot) (ops : ℕ) (later : Summary) (parent : Both) (seen : Seen)
+      → IsAt (two_rounds_model start confirms) p i (child_boots.First boot ops later) seen
+      → AreSummaries start confirms p parent → IsChild (one_round start) boot parent.first seen
+  parent_first (round_one s) i boot ops later parent seen at t = (s, i, first_at start confirms s i boot ops later seen at, at.on_is.early, t.first_is)
   parent_first (round_two began s) i boot ops later parent seen at t = absurd at.on_is
 
   -- Where the outcome of the first round follows from that of the boot that was cut, so does that of the second.
-  pub summary_alike : (p : RoundNode Content) (i : ℕ) (boot : Boot) (ops : ℕ) (later one : Summary) (parent : Both) (seen : Seen)
-      → IsAt (two_rounds_model r g confirms) p i (child_boots.First boot ops later) seen
-      → AreSummaries r g confirms p parent → IsChildSummary (one_round r g) boot parent.first seen one → LeavesAlike r g boot parent.first seen
-      → AreSummaries r g confirms (child r g confirms p i) (record { round = rounds_of.First; first = one; second = parent.second })
+  pub summary_alike : (p : RoundNode PowerOn) (i : ℕ) (boot : Boot) (ops : ℕ) (later one : Summary) (parent : Both) (seen : Seen)
+      → IsAt (two_rounds_model start confirms) p i (child_boots.First boot ops later) seen
+      → AreSummaries start confirms p parent → IsChildSummary (one_round start) boot parent.first seen one → LeavesAlike start boot parent.first seen
+      → AreSummaries start confirms (child confirms p i) (record { round = rounds_of.First; first = one; second = parent.second })
   summary_alike (round_one s) i boot ops later one parent seen at t gives alike =
-      let here = first_at r g confirms s i boot ops later seen at in
-      let same = same_start r g confirms s (at_cut (power_on r g s) i) (alike s i here at.on_is.early t.first_is) in
-      subst (λ q. AreSummaries r g confirms q (record { round = rounds_of.First; first = one; second = parent.second })) (sym (first_child r g confirms s i at.on_is.early))
+      let here = first_at start confirms s i boot ops later seen at in
+      let same = same_start confirms s (at_cut s i) (alike s i here at.on_is.early t.first_is.1) in
+      subst (λ q. AreSummaries start confirms q (record { round = rounds_of.First; first = one; second = parent.second })) (sym (first_child confirms s i at.on_is.early))
       (record {
         round_is = refl;
         first_is = gives s i here at.on_is.early t.first_is;
-        second_is = subst (λ x. IsSummary (power_on r g x) parent.second) (sym same) t.second_is;
+        second_is = subst (λ x. (one_round start).IsSummary x parent.second) (sym same) t.second_is;
       })
   summary_alike (round_two began s) i boot ops later one parent seen at t gives alike = absurd at.on_is
 
   -- Else both are run.
-  summary_run : (p : RoundNode Content) (i : ℕ) (boot : Boot) (ops : ℕ) (later : Summary) (seen : Seen) (both : Both) → IsAt (two_rounds_model r g confirms) p i (child_boots.First boot ops later) seen
-      → AreSummaries r g confirms (round_one seen.content) both → AreSummaries r g confirms (child r g confirms p i) both
+  summary_run : (p : RoundNode PowerOn) (i : ℕ) (boot : Boot) (ops : ℕ) (later : Summary) (seen : Seen) (both : Both)
+      → IsAt (two_rounds_model start confirms) p i (child_boots.First boot ops later) seen → AreSummaries start confirms (round_one (again start seen.content)) both
+      → AreSummaries start confirms (child confirms p i) both
   summary_run (round_one s) i boot ops later seen both at t = grind arith
   summary_run (round_two began s) i boot ops later seen both at t = absurd at.on_is
 
   pub summary_children : {E : Type 0} (child_boot : ChildBoot) (boot : Boot) (ops : ℕ) (later : Summary) (parent : Both) (seen : Seen) (result : Result Both E)
       → child_boot ≡ child_boots.First boot ops later
-      → IfOk result (AreSummaries r g confirms (round_one seen.content)) → IfOk result (IsChildSummary (two_rounds_model r g confirms) child_boot parent seen)
+      → IfOk result (AreSummaries start confirms (round_one (again start seen.content))) → IfOk result (IsChildSummary (two_rounds_model start confirms) child_boot parent seen)
   summary_children child_boot boot ops later parent seen (Ok both) is t = grind arith
   summary_children child_boot boot ops later parent seen (Err e) is t = tt
 
-  pub summary_second : (p : RoundNode Content) (i : ℕ) (boot : Boot) (two : Summary) (parent : Both) (seen : Seen) → IsAt (two_rounds_model r g confirms) p i (child_boots.Second boot) seen
-      → i < width r g confirms p
-      → AreSummaries r g confirms p parent → IsChildSummary (one_round r g) boot parent.second seen two
-      → AreSummaries r g confirms (child r g confirms p i) (record { round = rounds_of.Second; first = parent.first; second = two })
+  pub summary_second : (p : RoundNode PowerOn) (i : ℕ) (boot : Boot) (two : Summary) (parent : Both) (seen : Seen) → IsAt (two_rounds_model start confirms) p i (child_boots.Second boot) seen
+      → i < width confirms p
+      → AreSummaries start confirms p parent → IsChildSummary (one_round start) boot parent.second seen two
+      → AreSummaries start confirms (child confirms p i) (record { round = rounds_of.Second; first = parent.first; second = two })
   summary_second p i boot two parent seen at early t gives = grind arith
 
   -- Two boots that were run, one after the other.
-  pub both_outcomes : (old mid new : Seen) (one two : Summary) → old.geometry ≡ g → mid.geometry ≡ old.geometry → IsSummary (power_on r g old.content) one
-      → left_by (power_on r g old.content) ≡ Some mid.content
-      → new.content ≡ confirmed_if confirms mid.geometry mid.content → IsSummary (power_on r g new.content) two
-      → AreSummaries r g confirms (round_one old.content) (record { round = rounds_of.First; first = one; second = two })
-  both_outcomes old mid new one two layout same a left is b = record {
-    round_is = refl;
-    first_is = a;
-    second_is = subst (λ x. IsSummary (power_on r g x) two) (between_left r g confirms old.content new.content mid (same ∙ layout) left is) b;
-  }
+  pub both_outcomes : (old mid new : Seen) (one two : Summary) → old.geometry ≡ start.geometry → mid.geometry ≡ old.geometry → IsSummary (again start old.content) one
+      → left_by (again start old.content) ≡ Some mid.content → new.content ≡ confirmed_if confirms mid.geometry mid.content → IsSummary (again start new.content) two
+      → AreSummaries start confirms (round_one (again start old.content)) (record { round = rounds_of.First; first = one; second = two })
+  both_outcomes old mid new one two layout same a left is b =
+      let x = again start old.content in
+      let second : again start new.content ≡ second_start confirms x = ap (again start) (between_left confirms x new.content mid (same ∙ layout) left is) ∙ sym (of_second start confirms x refl) in
+      record { round_is = refl; first_is = (refl, a); second_is = (of_second start confirms x refl, subst (λ y. IsSummary y two) second b) }
 
   -- ---- how many children there are
 
-  pub width_first : (p : RoundNode Content) (summary : Both) (n : ℕ) → IsLayout g → summary.round ≡ rounds_of.First → AreSummaries r g confirms p summary
+  pub width_first : (p : RoundNode PowerOn) (summary : Both) (n : ℕ) → IsLayout start.geometry → summary.round ≡ rounds_of.First → AreSummaries start confirms p summary
       → n ≡ min (summary.first.outcome.ops + summary.second.outcome.ops) 4294967295
-      → n ≡ width r g confirms p
+      → n ≡ width confirms p
   width_first (round_one s) summary n valid round t is = grind (arith, width_is, few_ops, few_operations)
   width_first (round_two began s) summary n valid round t is = let not_so : rounds_of.First ≡ rounds_of.Second = sym round ∙ t.round_is in absurd cc
 
-  pub width_second : (p : RoundNode Content) (summary : Both) → summary.round ≡ rounds_of.Second → AreSummaries r g confirms p summary → summary.second.outcome.ops ≡ width r g confirms p
+  pub width_second : (p : RoundNode PowerOn) (summary : Both) → summary.round ≡ rounds_of.Second → AreSummaries start confirms p summary → summary.second.outcome.ops ≡ width confirms p
   width_second (round_one s) summary round t = let not_so : rounds_of.First ≡ rounds_of.Second = sym t.round_is ∙ round in absurd cc
-  width_second (round_two began s) summary round t = width_is r g summary.second s t.second_is
+  width_second (round_two began s) summary round t = width_is s summary.second t.second_is.1

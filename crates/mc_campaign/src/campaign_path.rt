@@ -1,23 +1,22 @@
 //! A walk along the path of a campaign.
-ghost use Rattle.std.specs.Prelude.{◌≡◌, ℕ, Bool, [], true, IfOk, IfErr, OnOk};
+ghost use Rattle.std.specs.Prelude.{◌≡◌, ℕ, Bool, [], true, IfOk, OnOk};
 ghost use Rattle.mc_tree.specs.Tree.{RoundNode};
-ghost use Rattle.mc_flash.specs.Flash.{Content};
-ghost use Rattle.mc_flash.specs.Geometry.{Geometry, IsLayout};
-ghost use Rattle.mc_trailer.specs.declared.tables.Rules.{Rules};
+ghost use Rattle.mc_boot.specs.Plan.{PowerOn};
+ghost use Rattle.mc_flash.specs.Geometry.{IsLayout};
 ghost use Rattle.mc_campaign.specs.inner.TwoRounds.{AreSummaries};
-ghost use Rattle.mc_campaign.specs.inner.View.{FollowsCampaign, HasChildOf};
+ghost use Rattle.mc_campaign.specs.inner.View.{FollowsCampaign, HasChildOf, begun_of};
 ghost use Rattle.mc_explore.specs.inner.Exploring.{NoAllocationFailed};
 
 use crate::campaign::{Campaign, Round};
 use crate::rounds::{Both, TwoRounds};
-use mc_explore::Start;
-use mc_flash::{Flash, FlashError};
+use mc_flash::Flash;
 use mc_walk::Walk;
+use std::alloc::AllocError;
 
 // The number of the child of a node at that cut, if it has one: the children in the second round stand after those in the first.
 fn child_of(summary: &Both, cut: (u8, u32)) -> Option<u32>
-    ensures { (r : Rules) (g : Geometry) (confirms : Bool) (p : RoundNode Content) → IsLayout g
-        → AreSummaries r g confirms p summary.now → HasChildOf r g confirms p cut result }
+    ensures { (start : PowerOn) (confirms : Bool) (p : RoundNode PowerOn) → IsLayout start.geometry
+        → AreSummaries start confirms p summary.now → HasChildOf confirms p cut result }
 {
     match summary.round {
         Round::First => {
@@ -41,24 +40,22 @@ fn child_of(summary: &Both, cut: (u8, u32)) -> Option<u32>
 ///
 /// # Errors
 ///
-/// `Memory` where the flash was refused memory.
+/// Where the flash was refused memory.
 pub(crate) fn follow<F: Flash>(
-    walk: &mut Walk<F, TwoRounds>,
+    walk: &mut Walk<F, TwoRounds<'_>>,
     campaign: &Campaign,
-    start: &Start,
-) -> Result<bool, FlashError>
+) -> Result<bool, AllocError>
     requires stands { walk.old.stands ≡ true }
     requires root { walk.old.path ≡ [] }
-    requires valid { IsLayout walk.old.flash_tree.one_round.layout }
+    requires valid { IsLayout (begun_of walk.old).geometry }
     ensures follows { IfOk result (λ went. FollowsCampaign walk.old campaign.now went walk.new) }
     ensures no_allocation_failed { OnOk result (NoAllocationFailed walk.old.seen walk.new.seen) }
-    ensures err { IfErr result (λ e. e ≡ FlashError.Memory) }
 {
     for cut in campaign.cuts() {
         let Some(number) = child_of(walk.summary(), *cut) else {
             return Ok(false);
         };
-        if !walk.go_down(number, start)? {
+        if !walk.go_down(number)? {
             return Ok(false);
         }
     }

@@ -1,60 +1,43 @@
 //! One campaign of power cuts, replayed.
 ghost use Rattle.std.specs.Prelude.{◌≡◌, ◌+◌, ◌≤◌, true, false, length, IfOk, IfErr, IsErr, OnOk, MatchResult};
-ghost use Rattle.mc_flash.specs.Flash.{size_of};
 ghost use Rattle.mc_flash.specs.Usage.{Keeps, Allows, LeaveRoom, limits_for, no_counts};
-ghost use Rattle.mc_flash.specs.declared.op.Slot.TheVariants.{Primary, Secondary};
 ghost use Rattle.mc_boot.specs.Restart.{confirmed_if, one_write};
 ghost use Rattle.mc_boot.specs.Outcome.{shown};
 ghost use Rattle.mc_walk.specs.inner.Stack.{most_at};
-ghost use Rattle.mc_explore.specs.inner.OneRound as trees;
+ghost use Rattle.mc_explore.specs.inner.OneRound.{one_round};
 ghost use Rattle.mc_explore.specs.Schedules as replays;
 ghost use Rattle.mc_start.specs.Start.{begun};
-ghost use Rattle.mc_explore.specs.inner.View.{begun_with};
-ghost use Rattle.mc_boot.specs.Plan.{again};
 ghost use Rattle.mc_campaign.specs.Campaigns.{AreReplayed, BeginsSecond, RefusesCampaign};
 ghost use Rattle.mc_campaign.specs.Rows.{Restarts};
 
 use crate::campaign::{Campaign, Round};
 use crate::rounds::go_between;
 use mc_boot::{Outcome, restart_law};
-use mc_explore::{OneRound, ReplayError, Schedule, Start, load_for, replay_on};
-use mc_flash::{Flash, Slot};
+use mc_explore::{ReplayError, Schedule, Start, load_for, replay_on};
+use mc_flash::Flash;
 use std::alloc::Global;
 
-// One round, on a flash of these bytes that is loaded for so many boots.
+// One round from a start, on a flash that is loaded for so many boots.
 fn replay_round<F: Flash>(
     alloc: Global,
-    one_round: &OneRound,
-    primary: &[u8],
-    secondary: &[u8],
+    start: &Start,
     cuts: &[u32],
     boots: u8,
-    start: &Start,
 ) -> Result<(Outcome, F), ReplayError>
-    requires primary { length primary.now ≡ size_of one_round.now.layout Primary }
-    requires secondary { length secondary.now ≡ size_of one_round.now.layout Secondary }
-    requires at_most { (length cuts.now ≤ 16) × (length cuts.now + 1 ≤ boots) × (boots ≤ 32) }
-    ensures replayed { let s = begun_with one_round.now primary.now secondary.now in MatchResult
-        result
+    requires { (length cuts.now ≤ 16) × (length cuts.now + 1 ≤ boots) × (boots ≤ 32) }
+    ensures replayed { let s = begun start.now in MatchResult result
         (λ done. replays.IsReplayed s cuts.now (shown done.0) (F.seen done.1).content)
         (λ e. replays.RefusesReplay s cuts.now e) }
-    ensures geometry { IfOk result (λ done. (F.seen done.1).geometry ≡ one_round.now.layout) }
+    ensures geometry { IfOk result (λ done. (F.seen done.1).geometry ≡ start.now.geometry) }
     ensures exact { IfOk result (λ done. F.counted ≡ true → (F.seen done.1).usage.limits
-        ≡ limits_for one_round.now.rules.grain one_round.now.layout boots) }
+        ≡ limits_for start.now.rules.grain start.now.geometry boots) }
     // No more is counted than a boot for each cut and one more make.
     ensures counts { IfOk result (λ done. LeaveRoom (F.seen done.1).usage.counts no_counts
-        (most_at (trees.one_round one_round.now.rules one_round.now.layout) (length cuts.now))) }
+        (most_at (one_round (begun start.now)) (length cuts.now))) }
     ensures counted { IfOk result (λ done. (F.seen done.1).usage.limits.counted ≡ F.counted) }
 {
-    let walk = load_for(
-        alloc,
-        *one_round,
-        primary,
-        secondary,
-        cuts.len() as u8,
-        boots,
-    )?;
-    let done = replay_on(walk, cuts, start)?;
+    let walk = load_for(alloc, start, cuts.len() as u8, (), u32::from(boots))?;
+    let done = replay_on(walk, cuts)?;
     Ok(done)
 }
 
@@ -88,41 +71,12 @@ pub fn start_of_second<F: Flash>(
         (λ then. BeginsSecond s confirms cuts.now (begun then))
         (λ e. replays.RefusesReplay s cuts.now e) }
 {
-    let one_round = OneRound {
-        rules: start.rules(),
-        layout: *start.layout(),
-    };
     let cuts = cuts.cuts();
     let boots = cuts.len() as u8 + 3;
-    let (primary, secondary) = (start.primary(), start.secondary());
-    let (_one, mut middle) = replay_round::<F>(
-        alloc, &one_round, primary, secondary, cuts, boots, start,
-    )?;
+    let (_one, mut middle) = replay_round::<F>(alloc, start, cuts, boots)?;
     settle(confirms, &mut middle)?;
-    start_on(alloc, start, &middle)
-}
-
-// The start under the same rules from the flash as it is.
-fn start_on<F: Flash>(alloc: Global, start: &Start, flash: &F) -> Result<Start, ReplayError>
-    requires { (F.seen flash.now).geometry ≡ start.now.geometry }
-    ensures { MatchResult result
-        (λ then. begun then ≡ again (begun start.now) (F.seen flash.now).content)
-        (λ e. e ≡ ReplayError.Memory) }
-{
-    let mut bytes = match flash.read(Slot::Primary).to_vec(alloc) {
-        Ok(bytes) => bytes,
-        Err(_) => return Err(ReplayError::Memory),
-    };
-    if bytes
-        .extend_from_slice(flash.read(Slot::Secondary))
-        .is_err()
-    {
-        return Err(ReplayError::Memory);
-    }
-    match Start::from_flash(alloc, start.layout(), &bytes) {
-        Ok(then) => Ok(then.with_rules(start.rules())),
-        Err(_) => Err(ReplayError::Memory),
-    }
+    let then = start.again(alloc, &middle)?;
+    Ok(then)
 }
 
 /// The outcomes of both rounds of a campaign from a start, between which the image confirms itself or not, and the flash that the
@@ -152,23 +106,18 @@ pub fn replay_campaign<F: Flash>(
         (shown done.0) (shown done.1) (F.seen done.2).content) }
 {
     restart_law();
-    let one_round = OneRound {
-        rules: start.rules(),
-        layout: *start.layout(),
-    };
+    // The layout of a start is one.
+    let _layout = start.layout();
     let boots = campaign.len() as u8 + 3;
     let (firsts, seconds) = (
         campaign.schedule(Round::First),
         campaign.schedule(Round::Second),
     );
     let (first, second) = (firsts.cuts(), seconds.cuts());
-    let (primary, secondary) = (start.primary(), start.secondary());
-    let (one, mut middle) = replay_round::<F>(
-        alloc, &one_round, primary, secondary, first, boots, start,
-    )?;
+    let (one, mut middle) = replay_round::<F>(alloc, start, first, boots)?;
     settle(confirms, &mut middle)?;
-    let (primary, secondary) = (middle.read(Slot::Primary), middle.read(Slot::Secondary));
-    match replay_round(alloc, &one_round, primary, secondary, second, boots, start) {
+    let then = start.again(alloc, &middle)?;
+    match replay_round(alloc, &then, second, boots) {
         Ok((two, flash)) => Ok((one, two, flash)),
         Err(ReplayError::CannotOccur(later)) => {
             Err(ReplayError::CannotOccur(first.len() + later))

@@ -10,25 +10,23 @@ use crate::rounds::TwoRounds;
 use crate::row::CampaignRow;
 use mc_boot::{Outcome, restart_law};
 use mc_explore::{
-    Countable, ExploreError, Fields, Labels, Line, OneRound, RowsAhead, Schedule, Start, Subject,
+    Countable, Fields, Labels, Line, OfStart, OneRound, RowsAhead, Schedule, Start, Subject,
     TreeExplorer, load_walk,
 };
-use mc_flash::{Flash, FlashError};
+use mc_flash::Flash;
 use mc_walk::Walk;
 use std::alloc::{AllocError, Global};
 
 /// Goes through all campaigns of at most so many cuts that can occur, in their order, each with the outcomes of both rounds, over
 /// one flash, which it loads for three boots more than there are cuts. Its choice is whether the image confirms itself between
 /// the rounds.
-pub type CampaignExplorer<'a, F> = TreeExplorer<'a, F, TwoRounds>;
+pub type CampaignExplorer<'a, F> = TreeExplorer<'a, F, TwoRounds<'a>>;
 
 // The campaign of the path at whose end a walk stands.
-fn campaign_at<F: Flash>(walk: &Walk<F, TwoRounds>) -> Campaign
+fn campaign_at<F: Flash>(walk: &Walk<F, TwoRounds<'_>>) -> Campaign
     requires stands { walk.now.stands ≡ true }
     requires at_most { length walk.now.path ≤ 16 }
-    ensures { result ≡ cuts_along walk.now.flash_tree.one_round.rules
-        walk.now.flash_tree.one_round.layout
-        walk.now.flash_tree.confirms (begun_of walk.now).content walk.now.path }
+    ensures { result ≡ cuts_along walk.now.flash_tree.confirms (begun_of walk.now) walk.now.path }
 {
     let mut campaign = Campaign::new();
     let mut step = 0;
@@ -39,8 +37,10 @@ fn campaign_at<F: Flash>(walk: &Walk<F, TwoRounds>) -> Campaign
     campaign
 }
 
-impl Subject for TwoRounds {
-    ghost use Rattle.std.specs.Prelude.{◌≡◌};
+impl Subject for TwoRounds<'_> {
+    ghost use Rattle.std.specs.Prelude.{◌≡◌, ◌≢◌, ◌↔◌, ◌++◌, ◌+◌, ◌<◌, ◌≤◌, [], length, true, false};
+    ghost use Rattle.mc_boot.specs.Outcome.{shown};
+    ghost use Rattle.mc_campaign.specs.Campaigns.{Precedes};
     ghost use Rattle.mc_tree.specs.facts.Order.{pairs_in_order};
     ghost use Rattle.mc_explore.specs.inner.OneRound.{begins};
     ghost use Rattle.mc_boot.specs.Plan.{PowerOn};
@@ -68,52 +68,45 @@ impl Subject for TwoRounds {
 
     ghost subject = { campaigns };
 
-    ghost begins = { λ t c. begins t.one_round c };
+    ghost begins = { λ t. begins t.one_round };
 
     ghost choice = { λ t. t.confirms };
 
-    ghost key_of = { λ t c path. cuts_along t.one_round.rules t.one_round.layout t.confirms c path };
+    ghost key_of = { λ t path. cuts_along t.confirms (begins t.one_round) path };
 
     ghost shown = { states.shown_row };
 
     ghost fields = { fields_of };
 
-    ghost holds = { λ _ _ _. Unit {0} };
+    ghost holds = { λ _ _. Unit {0} };
 
-    ghost is_ahead = { λ _ _ _ _ _ _. ⊥ };
+    ghost is_ahead = { λ _ _ _ _ _. ⊥ };
 
-    ghost MORE = { 3 };
+    ghost more = { 3 };
 
-    const MORE: u32 = 3;
-
-    fn of(start: &Start, chosen: bool) -> TwoRounds {
-        TwoRounds {
-            one_round: OneRound {
-                rules: start.rules(),
-                layout: *start.layout(),
-            },
-            confirms: chosen,
-        }
+    fn more(self) -> u32 {
+        3
     }
 
-    fn is_choice(one: &bool, other: &bool) -> bool {
+    fn is_choice(one: &bool, other: &bool) -> bool
+        ensures yes { result ≡ true → one.now ≡ other.now }
+        ensures no { result ≡ false → one.now ≢ other.now }
+    {
         *one == *other
     }
 
-    fn none() -> Campaign {
+    fn none() -> Campaign
+        ensures { result ≡ [] }
+    {
         Campaign::new()
     }
 
-    fn follow<F: Flash>(
-        walk: &mut Walk<F, TwoRounds>,
-        key: &Campaign,
-        start: &Start,
-    ) -> Result<bool, FlashError> {
-        let went = campaign_path::follow(walk, key, start)?;
+    fn follow<F: Flash>(walk: &mut Walk<F, Self>, key: &Campaign) -> Result<bool, AllocError> {
+        let went = campaign_path::follow(walk, key)?;
         Ok(went)
     }
 
-    fn row<F: Flash>(walk: &Walk<F, TwoRounds>, path: &Schedule) -> CampaignRow {
+    fn row<F: Flash>(walk: &Walk<F, Self>, path: &Schedule) -> CampaignRow {
         // The path has no more steps than a schedule has cuts.
         let _cuts = path.cuts();
         let campaign = campaign_at(walk);
@@ -125,41 +118,49 @@ impl Subject for TwoRounds {
         }
     }
 
-    fn kept(_alloc: Global, _start: &Start, _bound: u8) -> Result<(), AllocError> {
+    fn kept(self, _alloc: Global, _bound: u8) -> Result<(), AllocError> {
         Ok(())
     }
 
     fn arrive<F: Flash>(
         _kept: &mut (),
-        _walk: &Walk<F, TwoRounds>,
+        _walk: &Walk<F, Self>,
         _path: &Schedule,
     ) -> Option<RowsAhead<()>> {
         None
     }
 
-    fn row_ahead(_kept: &(), _path: &Schedule, _rows: &RowsAhead<()>) -> Option<CampaignRow> {
+    fn row_ahead(self, _kept: &(), _path: &Schedule, _rows: &RowsAhead<()>) -> Option<CampaignRow> {
         None
     }
 
     #[inline]
-    fn key(row: &CampaignRow) -> Campaign {
+    fn key(row: &CampaignRow) -> Campaign
+        ensures { result ≡ (states.shown_row row.now).campaign }
+    {
         row.campaign
     }
 
-    fn end(row: &CampaignRow) -> Outcome {
+    fn end(row: &CampaignRow) -> Outcome
+        ensures { shown result ≡ campaigns.ends (states.shown_row row.now) }
+    {
         row.end()
     }
 
     #[inline]
-    fn is_before(row: &CampaignRow, key: &Campaign) -> bool {
+    fn is_before(row: &CampaignRow, key: &Campaign) -> bool
+        ensures { (result ≡ true) ↔ Precedes (states.shown_row row.now).campaign key.now }
+    {
         row.campaign.is_before(key)
     }
 
-    fn restarts() {
+    fn restarts(self) {
         restart_law();
     }
 
-    fn fields(cursor: &CampaignCursor) -> Fields<bool, Campaign> {
+    fn fields(cursor: &CampaignCursor) -> Fields<bool, Campaign>
+        ensures { result ≡ fields_of cursor.now }
+    {
         let digest = cursor.digest;
         Fields {
             rules: cursor.rules,
@@ -185,54 +186,76 @@ impl Subject for TwoRounds {
         }
     }
 
-    fn put_row(row: &CampaignRow, line: &mut Line, labels: &Labels) {
+    fn put_row(row: &CampaignRow, line: &mut Line, labels: &Labels)
+        requires { line.old ≡ [] }
+        ensures text { line.new ≡ campaigns.row_text (states.shown_row row.now) }
+        ensures length { length line.new < 512 }
+    {
         row.put_into(line, labels);
     }
 
-    fn put_key(key: &Campaign, line: &mut Line) {
+    fn put_key(key: &Campaign, line: &mut Line)
+        requires { length line.old + 208 ≤ 512 }
+        ensures text { line.new ≡ line.old ++ campaigns.key_text key.now }
+        ensures length { length line.new ≤ length line.old + 208 }
+    {
         key.put_into(line);
     }
 
-    fn put_cursor(cursor: &CampaignCursor, line: &mut Line) {
+    fn put_cursor(cursor: &CampaignCursor, line: &mut Line)
+        requires { length line.old + 303 ≤ 512 }
+        ensures text { line.new ≡ line.old ++ campaigns.cursor_text cursor.now }
+        ensures length { length line.new ≤ length line.old + 303 }
+    {
         cursor.put_into(line);
     }
 
-    ghost are_keys = { are_campaigns };
+    ghost are_keys = { λ t. are_campaigns (begins t.one_round) t.confirms };
 
     ghost order = { pairs_in_order };
 
     ghost some_rest = { some_rest };
 
-    ghost costs = { campaign_costs };
+    ghost costs = { λ t. campaign_costs (begins t.one_round) t.confirms };
 
     ghost few_more = { three_more };
 
-    ghost clear = { campaigns_clear };
+    ghost clear = { λ t. campaigns_clear (begins t.one_round) t.confirms };
 }
 
-impl Countable for TwoRounds {
+impl<'a> OfStart<'a> for TwoRounds<'a> {
+    fn of(start: &'a Start, chosen: bool) -> TwoRounds<'a> {
+        TwoRounds {
+            one_round: OneRound { start },
+            confirms: chosen,
+        }
+    }
+}
+
+impl Countable for TwoRounds<'_> {
     ghost use Rattle.std.specs.Prelude.{refl};
     ghost use Rattle.mc_explore.specs.inner.OneRound.{begins};
     ghost use Rattle.mc_campaign.specs.facts.Listed.{all_rows, row_at};
 
-    fn key_at<F: Flash>(
-        alloc: Global,
-        start: &Start,
-        chosen: bool,
-        path: &Schedule,
-    ) -> Result<Campaign, ExploreError> {
+    fn key_at<F: Flash>(self, alloc: Global, path: &Schedule) -> Result<Campaign, AllocError> {
         let cuts = path.cuts();
-        let mut walk: Walk<F, TwoRounds> = load_walk(alloc, start, cuts.len() as u8, chosen)?;
-        walk.begin(start)?;
-        walk.follow(cuts, start)?;
+        let start = self.one_round.start;
+        let mut walk: Walk<F, TwoRounds<'_>> = load_walk(
+            alloc,
+            start,
+            cuts.len() as u8,
+            self.confirms,
+        )?;
+        walk.begin()?;
+        walk.follow(cuts)?;
         Ok(campaign_at(&walk))
     }
 
-    ghost row_of = { λ t c path. row_at (begins t.one_round c) t.confirms path };
+    ghost row_of = { λ t path. row_at (begins t.one_round) t.confirms path };
 
-    ghost row_ends = { λ t c path. refl };
+    ghost row_ends = { λ t path. refl };
 
-    ghost row_key = { λ t c path. refl };
+    ghost row_key = { λ t path. refl };
 
-    ghost all_rows = { λ t c bound. all_rows (begins t.one_round c) t.confirms bound };
+    ghost all_rows = { λ t bound. all_rows (begins t.one_round) t.confirms bound };
 }

@@ -14,7 +14,7 @@ pub fn campaigns_are_paths()
     ensures paths { (x : PowerOn) (confirms : Bool) (bound : ℕ) (c : List (ℕ × ℕ))
         → IsMember x confirms bound c ↔ ((path : List ℕ) × IsPathOf x confirms bound path c) }
     ensures all { (x : PowerOn) (confirms : Bool) (bound : ℕ) (path : List ℕ)
-        → tree.IsMember (rounds x.rules x.geometry confirms) (round_one x.content) bound path
+        → tree.IsMember (rounds confirms) (round_one x) bound path
         → (c : List (ℕ × ℕ)) × IsPathOf x confirms bound path c }
     ensures order { (x : PowerOn) (confirms : Bool) (bound : ℕ) (path other : List ℕ)
         (c d : List (ℕ × ℕ)) → IsPathOf x confirms bound path c → IsPathOf x confirms bound other d

@@ -1,18 +1,19 @@
 //! Two rounds of boots, one after the other.
-ghost use Rattle.std.specs.Prelude.{◌≡◌, ◌+◌, IfOk, IfErr, OnOk};
+ghost use Rattle.std.specs.Prelude.{◌≡◌, ◌+◌, IfOk, OnOk};
 ghost use Rattle.mc_tree.specs.Tree.{round_one};
 ghost use Rattle.mc_flash.specs.Usage.{no_counts, Keeps, Allows, HasRoom, LeaveRoom, Spends, Stays, plus};
 ghost use Rattle.mc_boot.specs.Restart.{confirmed_if, one_write};
 
 use crate::campaign::Round;
 use mc_boot::{Boot, confirm};
-use mc_explore::{OneRound, Start, Summary};
-use mc_flash::{Flash, FlashError};
+use mc_explore::{OneRound, Summary};
+use mc_flash::Flash;
+use std::alloc::AllocError;
 
-/// Two rounds of boots of a layout by the same rules, each of which can be cut. Between them the image confirms itself or not.
+/// Two rounds of boots from a start, each of which can be cut. Between them the image confirms itself or not.
 #[derive(Clone, Copy)]
-pub struct TwoRounds {
-    pub one_round: OneRound,
+pub struct TwoRounds<'a> {
+    pub one_round: OneRound<'a>,
     pub confirms: bool,
 }
 
@@ -43,8 +44,8 @@ pub enum ChildBoot {
 ///
 /// # Errors
 ///
-/// `Memory` where the flash was refused memory.
-pub(crate) fn go_between<F: Flash>(confirms: bool, flash: &mut F) -> Result<(), FlashError>
+/// Where the flash was refused memory.
+pub(crate) fn go_between<F: Flash>(confirms: bool, flash: &mut F) -> Result<(), AllocError>
     ensures content { OnOk result ((F.seen flash.new).content ≡ confirmed_if confirms
         (F.seen flash.old).geometry (F.seen flash.old).content) }
     ensures keeps { Keeps (F.seen flash.old) (F.seen flash.new) }
@@ -52,7 +53,6 @@ pub(crate) fn go_between<F: Flash>(confirms: bool, flash: &mut F) -> Result<(), 
         (plus (F.seen flash.old).usage.counts one_write) }
     ensures spends { Allows one_write (F.seen flash.old)
         → Spends 1 (F.seen flash.old) result (F.seen flash.new) }
-    ensures err { IfErr result (λ e. e ≡ FlashError.Memory) }
 {
     if confirms {
         confirm(flash)?;
@@ -60,30 +60,25 @@ pub(crate) fn go_between<F: Flash>(confirms: bool, flash: &mut F) -> Result<(), 
     Ok(())
 }
 
-impl TwoRounds {
-    ghost use Rattle.mc_explore.specs.inner.OneRound.{BeginsOn};
+impl TwoRounds<'_> {
+    ghost use Rattle.mc_boot.specs.Plan.{again};
+    ghost use Rattle.mc_explore.specs.inner.OneRound.{BeginsOn, begins};
     ghost use Rattle.mc_campaign.specs.inner.TwoRounds.{AreSummaries, most_of_both};
 
     // Runs the boot at power-on to its end, and then that of the second round.
-    fn run<F: Flash>(&self, flash: &mut F, boot: Boot, start: &Start) -> Result<Both, FlashError>
-        requires begun { BeginsOn self.now.one_round.rules self.now.one_round.layout (F.seen
-            flash.old)
-            boot }
-        requires room { Allows (most_of_both self.now.one_round.rules self.now.one_round.layout)
-            (F.seen flash.old) }
-        ensures summary { IfOk result (AreSummaries self.now.one_round.rules
-            self.now.one_round.layout
-            self.now.confirms (round_one (F.seen flash.old).content)) }
+    fn run<F: Flash>(&self, flash: &mut F, boot: Boot) -> Result<Both, AllocError>
+        requires begun { BeginsOn (begins self.now.one_round) (F.seen flash.old) boot }
+        requires room { Allows (most_of_both (begins self.now.one_round)) (F.seen flash.old) }
+        ensures summary { let start = begins self.now.one_round in IfOk result (AreSummaries start
+            self.now.confirms (round_one (again start (F.seen flash.old).content))) }
         ensures keeps { Keeps (F.seen flash.old) (F.seen flash.new) }
-        ensures spends { Spends (most_of_both self.now.one_round.rules
-            self.now.one_round.layout).entries
+        ensures spends { Spends (most_of_both (begins self.now.one_round)).entries
             (F.seen flash.old) result (F.seen flash.new) }
-        ensures err { IfErr result (λ e. e ≡ FlashError.Memory) }
     {
-        let first = self.one_round.run(flash, boot, start)?;
+        let first = self.one_round.run(flash, boot)?;
         go_between(self.confirms, flash)?;
-        let then = self.one_round.boot(flash, start);
-        let second = self.one_round.run(flash, then, start)?;
+        let then = self.one_round.boot(flash);
+        let second = self.one_round.run(flash, then)?;
         Ok(Both {
             round: Round::First,
             first,
@@ -96,24 +91,17 @@ impl TwoRounds {
         &self,
         flash: &mut F,
         boot: Boot,
-        start: &Start,
-    ) -> Result<Both, FlashError>
-        requires begun { BeginsOn self.now.one_round.rules self.now.one_round.layout (F.seen
-            flash.old)
-            boot }
-        requires room { HasRoom (most_of_both self.now.one_round.rules self.now.one_round.layout)
-            (F.seen flash.old) }
-        ensures summary { IfOk result (AreSummaries self.now.one_round.rules
-            self.now.one_round.layout
-            self.now.confirms (round_one (F.seen flash.old).content)) }
+    ) -> Result<Both, AllocError>
+        requires begun { BeginsOn (begins self.now.one_round) (F.seen flash.old) boot }
+        requires room { HasRoom (most_of_both (begins self.now.one_round)) (F.seen flash.old) }
+        ensures summary { let start = begins self.now.one_round in IfOk result (AreSummaries start
+            self.now.confirms (round_one (again start (F.seen flash.old).content))) }
         ensures stays { OnOk result (Stays (F.seen flash.old) (F.seen flash.new)) }
-        ensures spends { Spends (most_of_both self.now.one_round.rules
-            self.now.one_round.layout).entries
+        ensures spends { Spends (most_of_both (begins self.now.one_round)).entries
             (F.seen flash.old) result (F.seen flash.new) }
-        ensures err { IfErr result (λ e. e ≡ FlashError.Memory) }
     {
         let here = flash.mark()?;
-        let both = self.run(flash, boot, start)?;
+        let both = self.run(flash, boot)?;
         flash.back_to(here);
         Ok(both)
     }

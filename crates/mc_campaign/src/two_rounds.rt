@@ -4,16 +4,17 @@ use crate::campaign::Round;
 use crate::rounds::{Both, ChildBoot, TwoRounds, go_between};
 use crate::row::end_by;
 use mc_boot::{Outcome, SharedTail};
-use mc_explore::{Ending, Start};
-use mc_flash::{Flash, FlashError};
+use mc_explore::Ending;
+use mc_flash::Flash;
 use mc_walk::FlashTree;
+use std::alloc::AllocError;
 
-impl FlashTree for TwoRounds {
+impl FlashTree for TwoRounds<'_> {
     ghost use Rattle.mc_tree.specs.Tree.{RoundNode};
-    ghost use Rattle.mc_flash.specs.Flash.{Content};
-    ghost use Rattle.mc_campaign.specs.inner.TwoRounds.{two_rounds_model};
+    ghost use Rattle.mc_boot.specs.Plan.{PowerOn};
+    ghost use Rattle.mc_campaign.specs.inner.TwoRounds.{model_of};
 
-    ghost Node = { RoundNode Content };
+    ghost Node = { RoundNode PowerOn };
 
     type Child = ChildBoot;
 
@@ -22,17 +23,13 @@ impl FlashTree for TwoRounds {
     /// The number of a round, and a cut there.
     type Label = (u8, u32);
 
-    /// The start, which knows its images.
-    type Known = Start;
-
     ghost use Rattle.mc_tree.specs.Tree as trees;
     ghost use Rattle.mc_explore.specs.inner.OneRound.{boots};
     ghost use Rattle.mc_campaign.specs.inner.TwoRounds.{second_start};
 
-    ghost model = { λ t. two_rounds_model t.one_round.rules t.one_round.layout t.confirms };
+    ghost model = { model_of };
 
-    ghost label_of = { λ t node number. trees.label (boots t.one_round.rules t.one_round.layout)
-        (second_start t.one_round.rules t.one_round.layout t.confirms) node number };
+    ghost label_of = { λ t node number. trees.label boots (second_start t.confirms) node number };
 
     fn label(self, at: &ChildBoot) -> (u8, u32) {
         match at {
@@ -43,7 +40,7 @@ impl FlashTree for TwoRounds {
 
     fn width(self, summary: &Both) -> u32 {
         // Reading a field gives the prover that it is a layout, so that the sum is small.
-        let _sector = self.one_round.layout.sector();
+        let _sector = self.one_round.start.layout().sector();
         match summary.round {
             Round::First => summary
                 .first
@@ -54,7 +51,7 @@ impl FlashTree for TwoRounds {
         }
     }
 
-    fn first_child<F: Flash>(self, flash: &mut F, summary: &Both) -> Result<ChildBoot, FlashError> {
+    fn first_child<F: Flash>(self, flash: &mut F, summary: &Both) -> Result<ChildBoot, AllocError> {
         let later = summary.second;
         match summary.round {
             Round::First => {
@@ -70,7 +67,7 @@ impl FlashTree for TwoRounds {
         }
     }
 
-    fn next<F: Flash>(self, flash: &mut F, at: &mut ChildBoot) -> Result<(), FlashError> {
+    fn next<F: Flash>(self, flash: &mut F, at: &mut ChildBoot) -> Result<(), AllocError> {
         match *at {
             ChildBoot::First {
                 mut boot,
@@ -94,9 +91,9 @@ impl FlashTree for TwoRounds {
         }
     }
 
-    fn root<F: Flash>(self, flash: &mut F, start: &Start) -> Result<Both, FlashError> {
-        let boot = self.one_round.boot(flash, start);
-        self.run_and_return(flash, boot, start)
+    fn root<F: Flash>(self, flash: &mut F) -> Result<Both, AllocError> {
+        let boot = self.one_round.boot(flash);
+        self.run_and_return(flash, boot)
     }
 
     fn child<F: Flash>(
@@ -104,22 +101,21 @@ impl FlashTree for TwoRounds {
         flash: &mut F,
         at: &ChildBoot,
         parent: &Both,
-        start: &Start,
-    ) -> Result<Both, FlashError> {
+    ) -> Result<Both, AllocError> {
         match at {
             ChildBoot::First { boot, .. } => match self
                 .one_round
-                .derive(flash, boot, &parent.first, start)
+                .derive(flash, boot, &parent.first)
             {
                 Ok(first) => Ok(Both {
                     round: Round::First,
                     first,
                     second: parent.second,
                 }),
-                Err(boot) => self.run_and_return(flash, boot, start),
+                Err(boot) => self.run_and_return(flash, boot),
             },
             ChildBoot::Second(boot) => {
-                let second = self.one_round.child(flash, boot, &parent.second, start)?;
+                let second = self.one_round.child(flash, boot, &parent.second)?;
                 Ok(Both {
                     round: Round::Second,
                     first: parent.first,
@@ -130,15 +126,16 @@ impl FlashTree for TwoRounds {
     }
 }
 
-impl Ending for TwoRounds {
+impl Ending for TwoRounds<'_> {
     ghost use Rattle.mc_tree.specs.Tree.{landed, round_one};
+    ghost use Rattle.mc_explore.specs.inner.OneRound.{begins};
     ghost use Rattle.mc_campaign.specs.inner.TwoRounds.{rounds};
     ghost use Rattle.mc_campaign.specs.facts.Listed.{end_from};
 
-    ghost report_of = { λ t c path. end_from t.one_round.rules t.one_round.layout t.confirms
-        (landed (rounds t.one_round.rules t.one_round.layout t.confirms) (round_one c) path) };
+    ghost report_of = { λ t path. end_from t.confirms (landed (rounds t.confirms) (round_one (begins
+        t.one_round)) path) };
 
-    fn ended(summary: &Both) -> Outcome {
+    fn ended(self, summary: &Both) -> Outcome {
         end_by(&summary.first.outcome, &summary.second.outcome)
     }
 

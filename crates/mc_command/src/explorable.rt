@@ -34,45 +34,62 @@ pub trait Explorable: Subject {
         ensures { result ≡ is_taken_back kind choice };
 }
 
-impl Explorable for OneRound {
-    ghost use Rattle.std.specs.Prelude.{false};
+impl Explorable for OneRound<'_> {
+    ghost use Rattle.std.specs.Prelude.{◌≡◌, IfOk, false};
+    ghost use Rattle.clap.specs.Matches.{found_of};
+    ghost use Rattle.mc_explore.specs.Rows.{subject};
+    ghost use Rattle.mc_options.specs.Arguments.{GivesRange};
 
     ghost IsChoice = { λ _ _. Unit {0} };
 
     ghost is_taken_back = { λ _ _. false };
 
-    fn chosen(_arguments: &ArgMatches<'_>) {}
+    fn chosen(_arguments: &ArgMatches<'_>)
+        ensures { Unit {0} }
+    {}
 
-    fn range(arguments: &ArgMatches<'_>) -> Result<RangeOptions<Cursor, Schedule>, Refusal> {
+    fn range(arguments: &ArgMatches<'_>) -> Result<RangeOptions<Cursor, Schedule>, Refusal>
+        ensures { IfOk result (GivesRange subject.cursor_text subject.key_text (found_of
+            arguments.now)) }
+    {
         range_options(arguments)
     }
 
-    fn takes_back(_kind: Kind, _choice: ()) -> bool {
+    fn takes_back(_kind: Kind, _choice: ()) -> bool
+        ensures { result ≡ false }
+    {
         false
     }
 }
 
-impl Explorable for TwoRounds {
-    ghost use Rattle.std.specs.Prelude.{codes};
-    ghost use Rattle.mc_options.specs.Arguments.{IsFlag};
+impl Explorable for TwoRounds<'_> {
+    ghost use Rattle.std.specs.Prelude.{◌≡◌, IfOk, codes};
+    ghost use Rattle.clap.specs.Matches.{found_of};
+    ghost use Rattle.mc_campaign.specs.Rows.{campaigns};
+    ghost use Rattle.mc_options.specs.Arguments.{GivesRange, IsFlag};
     ghost use Rattle.mc_command.specs.Sessions.{is_left_alone};
 
     ghost IsChoice = { λ found confirms. IsFlag found (codes "confirm") confirms };
 
     ghost is_taken_back = { is_left_alone };
 
-    fn chosen(arguments: &ArgMatches<'_>) -> bool {
+    fn chosen(arguments: &ArgMatches<'_>) -> bool
+        ensures { IsFlag (found_of arguments.now) (codes "confirm") result }
+    {
         arguments.get_flag("confirm")
     }
 
-    fn range(
-        arguments: &ArgMatches<'_>,
-    ) -> Result<RangeOptions<CampaignCursor, Campaign>, Refusal> {
+    fn range(arguments: &ArgMatches<'_>) -> Result<RangeOptions<CampaignCursor, Campaign>, Refusal>
+        ensures { IfOk result (GivesRange campaigns.cursor_text campaigns.key_text (found_of
+            arguments.now)) }
+    {
         range_options(arguments)
     }
 
     // A test that does not confirm itself is taken back in the second round.
-    fn takes_back(kind: Kind, confirms: bool) -> bool {
+    fn takes_back(kind: Kind, confirms: bool) -> bool
+        ensures { result ≡ is_left_alone kind confirms }
+    {
         matches!(kind, Kind::Test) && !confirms
     }
 }

@@ -11,6 +11,7 @@ mod verdict;
 use clap::error::ErrorKind;
 use clap::{ArgMatches, Error};
 use commands::rounds::{RoundText, print as print_rounds};
+use commands::{census, explore};
 use mc_campaign::TwoRounds;
 use mc_cli::{WatchedFiles, parse};
 use mc_explore::OneRound;
@@ -173,8 +174,14 @@ fn run_exploration<F: Files, O: Write>(
     out: &mut O,
 ) -> Result<(), Refusal> {
     match name {
-        "explore" => commands::explore::run::<OneRound, F, O>(files, alloc, arguments, out),
-        "campaign" => commands::explore::run::<TwoRounds, F, O>(files, alloc, arguments, out),
+        "explore" => {
+            let (asked, rows) = explore::ask::<OneRound, F>(files, alloc, arguments)?;
+            explore::run::<OneRound, O>(&rows, &asked, alloc, out)
+        }
+        "campaign" => {
+            let (asked, rows) = explore::ask::<TwoRounds, F>(files, alloc, arguments)?;
+            explore::run::<TwoRounds, O>(&rows, &asked, alloc, out)
+        }
         "survey" => run_survey(files, alloc, arguments, out),
         "census" => run_census(files, alloc, arguments, out),
         _ => Err(Refusal::Argument),
@@ -189,9 +196,11 @@ fn run_census<F: Files, O: Write>(
     out: &mut O,
 ) -> Result<(), Refusal> {
     if has_two_rounds(arguments)? {
-        commands::census::run::<TwoRounds, F, O>(files, alloc, arguments, out)
+        let wanted = census::read::<TwoRounds, F>(files, alloc, arguments)?;
+        census::run::<TwoRounds, O>(&wanted, alloc, out)
     } else {
-        commands::census::run::<OneRound, F, O>(files, alloc, arguments, out)
+        let wanted = census::read::<OneRound, F>(files, alloc, arguments)?;
+        census::run::<OneRound, O>(&wanted, alloc, out)
     }
 }
 
@@ -203,8 +212,10 @@ fn run_survey<F: Files, O: Write>(
     out: &mut O,
 ) -> Result<(), Refusal> {
     if has_two_rounds(arguments)? {
-        commands::explore::survey::<TwoRounds, F, O>(files, alloc, arguments, out)
+        let (asked, rows) = explore::ask::<TwoRounds, F>(files, alloc, arguments)?;
+        explore::survey::<TwoRounds, O>(&rows, &asked, alloc, out)
     } else {
-        commands::explore::survey::<OneRound, F, O>(files, alloc, arguments, out)
+        let (asked, rows) = explore::ask::<OneRound, F>(files, alloc, arguments)?;
+        explore::survey::<OneRound, O>(&rows, &asked, alloc, out)
     }
 }

@@ -2,24 +2,24 @@
 use Rattle.std.specs.Prelude.{◌≡◌, ◌≤◌, ℕ, Bool, true, false, List, []}
 use Rattle.std.proofs.Common.{arith, ap, ◌∙◌}
 use Rattle.mc_tree.specs.Tree.{After}
-use Rattle.mc_flash.specs.{Flash.{Content}, Usage.{Spent}}
+use Rattle.mc_flash.specs.Usage.{Spent}
 use Rattle.mc_walk.specs.{TreeModel.{TreeModel}, Walks.{Walked, Begins, position_of}}
 use Rattle.mc_walk.specs.declared.tour.Phase.TheVariants as phases
 use Rattle.mc_start.specs.Start.{start_digest}
 use Rattle.mc_boot.specs.Plan.{PowerOn}
-use Rattle.mc_explore.specs.inner.Exploring.{FollowsKey, NoAllocationFailed, IsCheapFor, IsLoaded, AreKeys, IsSound, Rowed, begun_of, state_of}
+use Rattle.mc_explore.specs.inner.Exploring.{FollowsKey, NoAllocationFailed, IsCheapFor, IsLoaded, AreKeys, IsSound, Rowed, state_of}
 use Rattle.mc_explore.specs.Subject.{after_key, Subject}
 use Rattle.mc_explore.proofs.Visiting.{same_begun}
 
-module _ {B C K R U N A T : Type 0} (x : Subject C K R U) (model : B → TreeModel N A T) (begins : B → Content → PowerOn) (choice : B → C) (key_of : B → Content → List ℕ → K)
-    (keys : (b : B) (c : Content) → AreKeys x (model b).tree ((model b).root c) (begins b c) (choice b) (key_of b c)) where
+module _ {B C K R U N A T : Type 0} (x : Subject C K R U) (model : B → TreeModel N A T) (begins : B → PowerOn) (choice : B → C) (key_of : B → List ℕ → K)
+    (keys : (b : B) → AreKeys x (model b).tree (model b).root (begins b) (choice b) (key_of b)) where
   pub started : (counted : Bool) (start : PowerOn) (chosen : C) (bound : ℕ) (w : Walked B) (last : K) → IsLoaded model begins choice counted start chosen bound w → last ≡ x.no_key → bound ≤ 16
       → IsSound model begins choice key_of counted start chosen bound (record { walk = w; phase = phases.Fresh; last = [] }) last
   started counted start chosen bound w last l none at_most = grind arith
 
   module _ (counted : Bool) (start : PowerOn) (chosen : C) (bound n : ℕ) (zero_walk one two : Walked B) (summary : T) (k : K) (l : IsLoaded model begins choice counted start chosen bound zero_walk)
       (b : Begins (model zero_walk.flash_tree) zero_walk summary one) (spent : Spent n zero_walk.seen one.seen) where
-    one_start : begun_of begins one ≡ start
+    one_start : begins one.flash_tree ≡ start
     one_start = same_begun x model begins choice key_of keys zero_walk one b.same ∙ l.start_is
 
     one_choice : choice one.flash_tree ≡ chosen
@@ -28,7 +28,7 @@ module _ {B C K R U N A T : Type 0} (x : Subject C K R U) (model : B → TreeMod
     one_bound : one.bound ≡ bound
     one_bound = b.same.bound ∙ l.bound_is
 
-    listed_there : x.IsListed (begun_of begins one) (choice one.flash_tree) one.bound k ≡ x.IsListed start chosen bound k
+    listed_there : x.IsListed (begins one.flash_tree) (choice one.flash_tree) one.bound k ≡ x.IsListed start chosen bound k
     listed_there = cc (one_start, one_choice, one_bound)
 
     module _ (went : Bool) (is : went ≡ true) (f : FollowsKey x model begins choice key_of one k went two) (no_allocation_failed : NoAllocationFailed one.seen two.seen) (at_most : bound ≤ 16) where
@@ -51,7 +51,7 @@ module _ {B C K R U N A T : Type 0} (x : Subject C K R U) (model : B → TreeMod
       cheap says most = grind arith
 
 -- The start of an explorer after a key is the one that its state has.
-pub same_digest : {B C K N A T : Type 0} (model : B → TreeModel N A T) (begins : B → Content → PowerOn) (choice : B → C) (key_of : B → Content → List ℕ → K)
+pub same_digest : {B C K N A T : Type 0} (model : B → TreeModel N A T) (begins : B → PowerOn) (choice : B → C) (key_of : B → List ℕ → K)
     (counted : Bool) (start : PowerOn) (chosen : C) (bound : ℕ) (t : Rowed B) (last : K) (summary : PowerOn) (c : C) (many : ℕ) (k : K) (d : List ℕ)
     → IsSound model begins choice key_of counted start chosen bound t last → state_of begins choice t.walk (position_of t.phase last) ≡ after_key summary c many k → d ≡ start_digest summary
     → d ≡ start_digest start

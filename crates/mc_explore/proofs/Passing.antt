@@ -3,11 +3,10 @@ use Rattle.std.proofs.Common.{Bool, IfSome, List, None, Option, Some, [], ap, ap
 use Rattle.std.proofs.lemmas.List.{same_from_push}
 use Rattle.mc_boot.specs.{Outcome.{Report}, declared.shared_tail.SharedTail.{SharedTail}}
 use Rattle.mc_explore.proofs.Counting.{Census}
-use Rattle.mc_explore.specs.{Right.{judged}, declared.expectation.Expectation.{Expectation}, facts.Children.{HasCome, child_here, IsAtChild, here_too}}
+use Rattle.mc_explore.specs.{Right.{judged}, declared.expectation.Expectation.{Expectation}, facts.Children.{HasCome, child_here, IsAtChild}}
 use Rattle.mc_explore.specs.{inner.Table.{HasWeights, IsTailOf, PassesBelow, ReachesChild, own_totals, paths_of, weigh}, inner.Totals.{cut_off, report_totals}}
-use Rattle.mc_flash.specs.Flash.{Content}
 use Rattle.mc_tree.specs.{Tree.{Allowed, landed}, facts.Order.{HasPassed, next_child, passed_all, some_child}, inner.Weights.{path_tree}}
-use Rattle.mc_walk.specs.{TreeModel.{IsChildOf, TreeModel}, Walks.{Climbs, IsLastStep, IsSame, IsThere, Walked, origin_of, root_of}}
+use Rattle.mc_walk.specs.{TreeModel.{IsChildOf, TreeModel}, Walks.{Climbs, IsLastStep, IsSame, IsThere, Walked}}
 use Rattle.mc_walk.specs.declared.frame.Frame.{Frame}
 
 module _ {N A T B : Type 0} (k : TreeModel N A T) where
@@ -15,24 +14,24 @@ module _ {N A T B : Type 0} (k : TreeModel N A T) where
   climbs_on zero old new went some climbs = absurd (omega (arith, some))
   climbs_on (suc n) old new true some climbs = λ l passed listed.
       let one : suc n ≡ n + 1 = omega arith in
-      let P : ℕ → Type 0 = λ m. Allowed k.tree (root_of k old) (l ++ m ∷ []) in
-      let next = next_child k.tree (root_of k old) l n old.path new.path passed (subst P one listed.1) climbs.0 in
+      let P : ℕ → Type 0 = λ m. Allowed k.tree k.root (l ++ m ∷ []) in
+      let next = next_child k.tree k.root l n old.path new.path passed (subst P one listed.1) climbs.0 in
       (next ∙ ap (λ m. l ++ m ∷ []) (sym one), climbs.1, climbs.2)
   climbs_on (suc n) old new false some climbs = λ l passed listed.
       let one : suc n ≡ n + 1 = omega arith in
-      let P : ℕ → Type 0 = λ m. Allowed k.tree (root_of k old) (l ++ m ∷ []) in
-      absurd (some_child k.tree (root_of k old) l n old.path passed (subst P one listed.1) climbs.0)
+      let P : ℕ → Type 0 = λ m. Allowed k.tree k.root (l ++ m ∷ []) in
+      absurd (some_child k.tree k.root l n old.path passed (subst P one listed.1) climbs.0)
 
   -- Where what lies below it lies among what lies below its parent.
-  pub tail_at : (w : Walked B) (f : Frame A T) (summary : T) (report_of : Content → List ℕ → Report) → IsThere k w summary → IsLastStep k w f → (found : Option SharedTail)
-      → IfSome found (λ x. (e : Expectation) (c : Content) (path : List ℕ) (i : ℕ) → IsChildOf k (landed k.tree (k.root c) path) i f.at f.parent summary w.seen
-      → IsTailOf (path_tree k.tree (k.root c)) (report_of c) e path i x)
-      → IfSome found (λ x. (e : Expectation) (l : List ℕ) (number : ℕ) → w.path ≡ l ++ number ∷ [] → IsTailOf (paths_of k w) (report_of (origin_of w.seen)) e l number x)
+  pub tail_at : (w : Walked B) (f : Frame A T) (summary : T) (report_of : List ℕ → Report) → IsThere k w summary → IsLastStep k w f → (found : Option SharedTail)
+      → IfSome found (λ x. (e : Expectation) (path : List ℕ) (i : ℕ) → IsChildOf k (landed k.tree k.root path) i f.at f.parent summary w.seen
+      → IsTailOf (path_tree k.tree k.root) report_of e path i x)
+      → IfSome found (λ x. (e : Expectation) (l : List ℕ) (number : ℕ) → w.path ≡ l ++ number ∷ [] → IsTailOf (paths_of k) report_of e l number x)
   tail_at w f summary report_of there step None found = tt
   tail_at w f summary report_of there step (Some x) found = λ e l number is.
       let same = same_from_push step.before l f.number number (sym step.path_is ∙ is) in
-      let at = subst (λ p. IsChildOf k (landed k.tree (root_of k w) p) f.number f.at f.parent summary w.seen) same.0 (child_here k w f summary there step) in
-      found e (origin_of w.seen) l number (subst (λ i. IsChildOf k (landed k.tree (root_of k w) l) i f.at f.parent summary w.seen) same.1 at)
+      let at = subst (λ p. IsChildOf k (landed k.tree k.root p) f.number f.at f.parent summary w.seen) same.0 (child_here k w f summary there step) in
+      found e l number (subst (λ i. IsChildOf k (landed k.tree k.root l) i f.at f.parent summary w.seen) same.1 at)
 
 -- The children of the node where a walk stood, one after another.
 module _ {N A T B : Type 0} (model : B → TreeModel N A T) (old : Walked B) where
@@ -40,30 +39,30 @@ module _ {N A T B : Type 0} (model : B → TreeModel N A T) (old : Walked B) whe
   k = model old.flash_tree
 
   abbrev root : N
-  root = root_of k old
+  root = k.root
 
   module _ (number : ℕ) (at : Walked B) (here : IsAtChild model old number at) where
     pub come_below : (now : Walked B) → PassesBelow (model at.flash_tree) at now → HasCome model old (suc number) now
     come_below now below = grind (arith, append_assoc)
 
     -- What is known of it there is known of that child.
-    module _ (report_of : B → Content → List ℕ → Report) (e : Expectation) where
-      pub tail_there : (x : SharedTail) → IsTailOf (paths_of (model at.flash_tree) at) (report_of at.flash_tree (origin_of at.seen)) e old.path number x
-          → IsTailOf (paths_of k old) (report_of old.flash_tree (origin_of old.seen)) e old.path number x
-      tail_there x tail = here_too model old at here.same (λ b c. IsTailOf (path_tree (model b).tree ((model b).root c)) (report_of b c) e old.path number x) tail
+    module _ (report_of : B → List ℕ → Report) (e : Expectation) where
+      pub tail_there : (x : SharedTail) → IsTailOf (paths_of (model at.flash_tree)) (report_of at.flash_tree) e old.path number x
+          → IsTailOf (paths_of k) (report_of old.flash_tree) e old.path number x
+      tail_there x tail = subst (λ b. IsTailOf (paths_of (model b)) (report_of b) e old.path number x) here.same.flash_tree tail
 
-      pub weights_there : (bound : ℕ) (column : List Census) → HasWeights (paths_of (model at.flash_tree) at) (report_of at.flash_tree (origin_of at.seen)) e at.path bound column
-          → HasWeights (paths_of k old) (report_of old.flash_tree (origin_of old.seen)) e (old.path ++ number ∷ []) bound column
+      pub weights_there : (bound : ℕ) (column : List Census) → HasWeights (paths_of (model at.flash_tree)) (report_of at.flash_tree) e at.path bound column
+          → HasWeights (paths_of k) (report_of old.flash_tree) e (old.path ++ number ∷ []) bound column
       weights_there bound column weights = grind arith
 
-      pub own_there : (report judged_report : Report) → report ≡ report_of at.flash_tree (origin_of at.seen) at.path → judged_report ≡ judged e report
-          → own_totals (paths_of k old) (report_of old.flash_tree (origin_of old.seen)) e (old.path ++ number ∷ []) ≡ report_totals judged_report
+      pub own_there : (report judged_report : Report) → report ≡ report_of at.flash_tree at.path → judged_report ≡ judged e report
+          → own_totals (paths_of k) (report_of old.flash_tree) e (old.path ++ number ∷ []) ≡ report_totals judged_report
       own_there report judged_report is judged_is = grind arith
 
   -- At the root of the walk.
-  pub root_weighs : (now : Walked B) (report_of : B → Content → List ℕ → Report) (e : Expectation) (bound : ℕ) (census : Census) → IsSame old now → now.path ≡ []
-      → census ≡ cut_off (weigh (paths_of (model now.flash_tree) now) (report_of now.flash_tree (origin_of now.seen)) e bound now.path)
-      → census ≡ cut_off (weigh (path_tree k.tree root) (report_of old.flash_tree (origin_of old.seen)) e bound [])
+  pub root_weighs : (now : Walked B) (report_of : B → List ℕ → Report) (e : Expectation) (bound : ℕ) (census : Census) → IsSame old now → now.path ≡ []
+      → census ≡ cut_off (weigh (paths_of (model now.flash_tree)) (report_of now.flash_tree) e bound now.path)
+      → census ≡ cut_off (weigh (path_tree k.tree root) (report_of old.flash_tree) e bound [])
   root_weighs now report_of e bound census same none is = grind arith
 
   -- The walk has passed all that lies below the node, also where it goes nowhere.

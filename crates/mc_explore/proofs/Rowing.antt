@@ -7,13 +7,13 @@ use Rattle.mc_boot.specs.{SharedTail.{IsSharedTail, index_in_parent}, declared.b
 use Rattle.mc_boot.specs.declared.shared_tail.SharedTail.{SharedTail}
 use Rattle.mc_explore.proofs.{Counting.{each_more}, Onwards.{joined_here}}
 use Rattle.mc_explore.specs.{declared.ahead.RowsAhead.{RowsAhead}, declared.one_round.OneRound.{OneRound}, declared.one_round.Summary.{Summary}}
-use Rattle.mc_explore.specs.{facts.Occurring.{at_zero}, facts.Tails.{placed_at}, facts.Summaries.{width_is}}
+use Rattle.mc_explore.specs.{facts.Occurring.{at_zero, landed_again}, facts.Tails.{placed_at}, facts.Summaries.{width_is}}
 use Rattle.mc_explore.specs.inner.Exploring.{AreBeyond, AreFresh, IsAtPhase, IsInStep, IsRowing, IsSpent, StandsFor, last_of, with_last}
-use Rattle.mc_explore.specs.{inner.LastCuts.{AreAtCuts, AreLastCuts, flash_at}, inner.OneRound.{IsSummary, at_cut, boots, one_round}}
-use Rattle.mc_flash.specs.{Flash.{Content}, Geometry.{Geometry}}
+use Rattle.mc_explore.specs.{inner.LastCuts.{AreAtCuts, AreLastCuts, boot_at}, inner.OneRound.{IsSummary, begun_of, boots, one_round}}
+use Rattle.mc_flash.specs.Flash.{Content}
 use Rattle.mc_trailer.specs.declared.tables.Rules.{Rules}
 use Rattle.mc_tree.specs.{Tree.{After, IsNext, Position, landed}, facts.Order.{allowed-push, landed-push, next_after, next_below}}
-use Rattle.mc_walk.specs.{TreeModel.{IsAt, TreeModel}, Walks.{IsLastStep, IsPath, IsThere, Toured, Visits, Walked, origin_of, position_of, root_of}}
+use Rattle.mc_walk.specs.{TreeModel.{IsAt, TreeModel}, Walks.{IsLastStep, IsPath, IsThere, Toured, Visits, Walked, position_of}}
 use Rattle.mc_walk.specs.{declared.frame.Frame.{Frame}, declared.tour.Phase.{Phase}, declared.tour.Phase.TheVariants.{Broken, Done, Fresh, Going}}
 use Rattle.mc_walk.specs.facts.Same.{path_back, same_back}
 
@@ -21,76 +21,76 @@ use Rattle.mc_walk.specs.facts.Same.{path_back, same_back}
 
 module _ (from : PowerOn) where
   -- A cut before the first operation leaves the flash as it is.
-  flash_twice : (of : List ℕ) (last : ℕ) → flash_at from ((of ++ 0 ∷ []) ++ last ∷ []) ≡ at_cut (again from (flash_at from of)) last
-  flash_twice of last = grind (arith, landed-push, at_zero)
+  boot_twice : (of : List ℕ) (last : ℕ) → boot_at from ((of ++ 0 ∷ []) ++ last ∷ []) ≡ boots.child (boot_at from of) last
+  boot_twice of last =
+      landed-push boots from (of ++ 0 ∷ []) last ∙ ap (λ x. boots.child x last) (landed-push boots from of 0 ∙ ap (again (boot_at from of)) (sym (at_zero (boot_at from of))))
 
   pub none_kept : (of : List ℕ) (outcomes : List Outcome) → outcomes ≡ [] → AreAtCuts from of outcomes
   none_kept of outcomes none i o is = absurd (omega (arith, slice_get_within outcomes i o is, ap length none))
 
   -- One outcome more.
   pub kept_more : (of schedule before : List ℕ) (outcomes new : List Outcome) (o : Outcome) (last first : ℕ) → AreAtCuts from of outcomes
-      → outcome_of (again from (flash_at from schedule)) ≡ Some (shown o) → schedule ≡ before ++ last ∷ [] → before ≡ of ++ first ∷ [] → first ≡ 0 → length outcomes ≡ last
+      → outcome_of (boot_at from schedule) ≡ Some (shown o) → schedule ≡ before ++ last ∷ [] → before ≡ of ++ first ∷ [] → first ≡ 0 → length outcomes ≡ last
       → new ≡ outcomes ++ o ∷ [] → AreAtCuts from of new
   kept_more of schedule before outcomes new o last first are summary s b f count is =
       let path : schedule ≡ (of ++ 0 ∷ []) ++ last ∷ [] = s ∙ ap (λ l. l ++ last ∷ []) (b ∙ ap (λ n. of ++ n ∷ []) f) in
-      let here : outcome_of (again from (at_cut (again from (flash_at from of)) (length outcomes))) ≡ Some (shown o) =
-      ap (λ n. outcome_of (again from (at_cut (again from (flash_at from of)) n))) count
-      ∙ sym (ap (λ l. outcome_of (again from (flash_at from l))) path ∙ ap (λ s. outcome_of (again from s)) (flash_twice of last)) ∙ summary in
-      subst (AreAtCuts from of) (sym is) (each_more (λ i p. outcome_of (again from (at_cut (again from (flash_at from of)) i)) ≡ Some (shown p)) outcomes o are here)
+      let here : outcome_of (boots.child (boot_at from of) (length outcomes)) ≡ Some (shown o) =
+      ap (λ n. outcome_of (boots.child (boot_at from of) n)) count ∙ sym (ap (λ l. outcome_of (boot_at from l)) path ∙ ap outcome_of (boot_twice of last)) ∙ summary in
+      subst (AreAtCuts from of) (sym is) (each_more (λ i p. outcome_of (boots.child (boot_at from of) i) ≡ Some (shown p)) outcomes o are here)
 
 -- A walk stands after a cut, with that summary.
-module _ (w : Walked OneRound) (f : Frame Boot Summary) (summary : Summary) (of path : List ℕ) (last : ℕ) (step : IsLastStep (one_round w.flash_tree.rules w.flash_tree.layout) w f)
-    (there : IsThere (one_round w.flash_tree.rules w.flash_tree.layout) w summary) (path_is : path ≡ w.path) (split : path ≡ of ++ last ∷ []) where
-  abbrev r : Rules
-  r = w.flash_tree.rules
+module _ (w : Walked OneRound) (f : Frame Boot Summary) (summary : Summary) (of path : List ℕ) (last : ℕ) (step : IsLastStep (one_round (begun_of w)) w f)
+    (there : IsThere (one_round (begun_of w)) w summary) (path_is : path ≡ w.path) (split : path ≡ of ++ last ∷ []) where
+  abbrev start : PowerOn
+  start = begun_of w
 
-  abbrev g : Geometry
-  g = w.flash_tree.layout
+  abbrev before : PowerOn
+  before = boot_at start of
 
-  abbrev before : Content
-  before = flash_at (power_on r g (origin_of w.seen)) of
+  before_is : boot_at start step.before ≡ before
+  before_is = ap (boot_at start) (same_from_push step.before of f.number last (sym step.path_is ∙ sym path_is ∙ split)).0
 
-  before_is : flash_at (power_on r g (origin_of w.seen)) step.before ≡ before
-  before_is = ap (flash_at (power_on r g (origin_of w.seen))) (same_from_push step.before of f.number last (sym step.path_is ∙ sym path_is ∙ split)).0
+  here_is : boot_at start path ≡ boots.child before f.number
+  here_is = grind (arith, before_is, landed-push)
 
-  here_is : flash_at (power_on r g (origin_of w.seen)) path ≡ at_cut (power_on r g before) f.number
-  here_is = grind (arith, before_is)
-
-  pub last_cuts_there : (outcomes : List Outcome) (x : SharedTail)
+  pub last_cuts_there : (outcomes : List Outcome) (tail : SharedTail)
       → ((y : Rules) (v : Content) (whole : Report) → IsCut (power_on y w.seen.geometry v) w.seen.content f.at whole → progress summary.boot ≡ begun y (plan (powered y w.seen))
-      → IsSharedTail (power_on y w.seen.geometry v) w.seen.content x)
+      → IsSharedTail (power_on y w.seen.geometry v) w.seen.content tail)
       → length outcomes ≡ f.parent.outcome.ops → 1 ≤ summary.outcome.ops → summary.outcome.ops ≤ 2 ^ 31
-      → AreLastCuts (power_on r g (origin_of w.seen)) of path outcomes x summary.outcome.ops
-  last_cuts_there outcomes x joins whole some small =
-      let at = subst (λ s. IsAt (one_round r g) s f.number f.at w.seen) before_is step.at_is in
-      let early = subst (λ s. f.number < length (ops_of (power_on r g s))) before_is step.some in
-      let parent = subst (λ s. IsSummary (power_on r g s) f.parent) before_is step.parent_is in
-      let child : IsSummary (power_on r g (flash_at (power_on r g (origin_of w.seen)) path)) summary = subst (λ l. IsSummary (power_on r g (flash_at (power_on r g (origin_of w.seen)) l)) summary)
-      (sym path_is) there.summary_is in
-      let with_shared_tail = joined_here r g before f.number f.at summary f.parent w.seen x at early parent (subst (λ s. IsSummary (power_on r g s) summary) here_is child) joins in
+      → AreLastCuts start of path outcomes tail summary.outcome.ops
+  last_cuts_there outcomes tail joins whole some small =
+      let at = subst (λ x. IsAt (one_round start) x f.number f.at w.seen) before_is step.at_is in
+      let early = subst (λ x. f.number < length (ops_of x)) before_is step.some in
+      let parent = subst (λ x. IsSummary x f.parent) before_is step.parent_is.1 in
+      let child : IsSummary (boot_at start path) summary = subst (λ l. IsSummary (boot_at start l) summary) (sym path_is) there.summary_is.1 in
+      let with_shared_tail = joined_here start before f.number f.at summary f.parent w.seen tail at early parent (subst (λ x. IsSummary x summary) here_is child) joins in
       record {
         number = last;
         path_is = split;
-        with_shared_tail = subst (λ u. IsSharedTail (power_on r g before) u x) (sym here_is) with_shared_tail;
-        count_is = width_is r g summary (flash_at (power_on r g (origin_of w.seen)) path) child;
-        whole = whole ∙ width_is r g f.parent before parent;
+        with_shared_tail = subst (λ x. IsSharedTail before x.content tail) (sym here_is) with_shared_tail;
+        count_is = width_is (boot_at start path) summary child;
+        whole = whole ∙ width_is before f.parent parent;
         some = some;
         small = small;
       }
 
 -- The outcome after the last of them that is next.
 module _ (x : PowerOn) (of path : List ℕ) (outcomes : List Outcome) (shared_tail : SharedTail) (count next : ℕ) (are : AreLastCuts x of path outcomes shared_tail count) (lt : next < count) where
-  early : next < length (ops_of (again x (flash_at x path)))
-  early = omega (arith, lt, are.count_is)
+  -- The boot after the path is by the same rules as the one after the path without its last cut.
+  path_boot : boot_at x path ≡ again (boot_at x of) (boot_at x path).content
+  path_boot = landed_again x path ∙ ap (λ (y : PowerOn). again y (boot_at x path).content) (sym (landed_again x of))
 
   pub outcome_there : (found : Option Outcome) → AreAtCuts x of outcomes → found ≡ slice_get outcomes (index_in_parent shared_tail next)
-      → IsSomeAnd found (λ o. outcome_of (again x (flash_at x (path ++ next ∷ []))) ≡ Some (shown o))
-  outcome_there None at is = grind (arith, slice_get_cases)
+      → IsSomeAnd found (λ o. outcome_of (boot_at x (path ++ next ∷ [])) ≡ Some (shown o))
+  outcome_there None at is =
+      let early : next < length (ops_of (again (boot_at x of) (boot_at x path).content)) = omega (arith, lt, are.count_is, ap (λ (y : PowerOn). length (ops_of y)) path_boot) in
+      let within = are.with_shared_tail.within next early in
+      grind (arith, slice_get_cases)
   outcome_there (Some o) at is =
-      let r = x.rules in
-      let g = x.geometry in
-      let flash = landed-push (boots r g) x.content path next ∙ placed_at r g (flash_at x of) (flash_at x path) shared_tail are.with_shared_tail next early in
-      ap (λ s. outcome_of (again x s)) flash ∙ at (index_in_parent shared_tail next) o (sym is)
+      let early : next < length (ops_of (again (boot_at x of) (boot_at x path).content)) = omega (arith, lt, are.count_is, ap (λ (y : PowerOn). length (ops_of y)) path_boot) in
+      let flash = landed-push boots x path next ∙ ap (λ y. boots.child y next) path_boot
+      ∙ placed_at (boot_at x of) (boot_at x path).content shared_tail are.with_shared_tail next early in
+      ap outcome_of flash ∙ at (index_in_parent shared_tail next) o (sym is)
 
 -- The next row, by how a tour stands with the last one.
 
@@ -103,7 +103,7 @@ pub some_found : {S R : Type 0} (shown : S → R) (P : R → Type 0) (Q : Option
 some_found shown P Q None is there = absurd is
 some_found shown P Q (Some s) is there = there (shown s) is
 
-module _ {B N A T H E : Type 0} (model : B → TreeModel N A T) (holds : B → Content → H → Type 0) (is_ahead : B → Content → H → List ℕ → E → ℕ → Type 0) where
+module _ {B N A T H E : Type 0} (model : B → TreeModel N A T) (holds : B → H → Type 0) (is_ahead : B → H → List ℕ → E → ℕ → Type 0) where
   -- Where no further path is, the position is after the last one.
 
   -- A row ahead is to come.
@@ -132,16 +132,16 @@ module _ {B N A T H E : Type 0} (model : B → TreeModel N A T) (holds : B → C
     next_is : IsNext (IsPath (model t.walk.flash_tree) t.walk) (After (with_last path x.next)) (path ++ x.next ∷ [])
     next_is = by x.next (omega (arith, lt, ahead_there.count_is))
       where
-        by : (n : ℕ) → n < (model t.walk.flash_tree).tree.width (landed (model t.walk.flash_tree).tree (root_of (model t.walk.flash_tree) t.walk) path)
+        by : (n : ℕ) → n < (model t.walk.flash_tree).tree.width (landed (model t.walk.flash_tree).tree (model t.walk.flash_tree).root path)
             → IsNext (IsPath (model t.walk.flash_tree) t.walk) (After (with_last path n)) (path ++ n ∷ [])
         by zero lt =
             let tree = (model t.walk.flash_tree).tree in
-            let root = root_of (model t.walk.flash_tree) t.walk in
+            let root = (model t.walk.flash_tree).root in
             let deep = ahead_there.deep in
             next_below tree root t.walk.bound path (omega (arith, deep, length-append path (0 ∷ [])), allowed-push tree root path 0 ahead_there.listed.1 lt)
         by (suc n) lt =
             let tree = (model t.walk.flash_tree).tree in
-            let root = root_of (model t.walk.flash_tree) t.walk in
+            let root = (model t.walk.flash_tree).root in
             let P : ℕ → Type 0 = λ m. IsNext (IsPath (model t.walk.flash_tree) t.walk) (After (path ++ n ∷ [])) (path ++ m ∷ []) in
             subst P (add-one n) (next_after tree root t.walk.bound path n ahead_there.deep (allowed-push tree root path n ahead_there.listed.1 (omega (arith, lt))) (omega (arith, lt)))
 
@@ -159,7 +159,7 @@ module _ {B N A T H E : Type 0} (model : B → TreeModel N A T) (holds : B → C
   -- A walk stands at that path, and these rows are ahead; and what was kept goes over.
   pub record HasArrived (w : Walked B) (kept kept' : H) (path' : List ℕ) (ahead' : Option (RowsAhead E)) : Type 0 where
     pub path_is : path' ≡ w.path
-    pub keeps : holds w.flash_tree (origin_of w.seen) kept → holds w.flash_tree (origin_of w.seen) kept'
+    pub keeps : holds w.flash_tree kept → holds w.flash_tree kept'
     pub are : IfSome ahead' (AreFresh model holds is_ahead w kept' path')
 
   -- No row ahead is to come.
@@ -182,7 +182,7 @@ module _ {B N A T H E : Type 0} (model : B → TreeModel N A T) (holds : B → C
         by : (n : ℕ) → x.count ≤ n → StandsFor model true (record { walk = t.walk; phase = Going }) (After (with_last path n))
         by zero le = absurd (omega (arith, le, at.1.some))
         by (suc n) le =
-            let width = ap (λ l. (model t.walk.flash_tree).tree.width (landed (model t.walk.flash_tree).tree (root_of (model t.walk.flash_tree) t.walk) l)) at.0 in
+            let width = ap (λ l. (model t.walk.flash_tree).tree.width (landed (model t.walk.flash_tree).tree (model t.walk.flash_tree).root l)) at.0 in
             record {
               number = n;
               position_is = ap (λ l. After (l ++ n ∷ [])) at.0;

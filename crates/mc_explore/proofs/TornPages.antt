@@ -147,7 +147,7 @@ all_read text rest last feedless so_far = (
 
 -- ---- a page that is torn
 
-small_cuts : (x : PowerOn) (l : List ℕ) → IsLayout x.geometry → Allowed (boots x.rules x.geometry) x.content l → Small l
+small_cuts : (x : PowerOn) (l : List ℕ) → IsLayout x.geometry → Allowed boots x l → Small l
 small_cuts x [] valid a = All-nil (λ c. c < 2 ^ 32)
 small_cuts x (c ∷ cs) valid a =
     let first : c < length (ops_of x) = a.0 in

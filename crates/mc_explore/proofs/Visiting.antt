@@ -1,58 +1,57 @@
 -- The row that a tour comes to is the one of the next key.
 use Rattle.std.specs.Prelude.{◌≡◌, ◌≢◌, ℕ, Bool, List}
-use Rattle.std.proofs.Common.{arith, sym, subst, None, Option, Some}
+use Rattle.std.proofs.Common.{ap, arith, sym, subst, None, Option, Some}
 use Rattle.mc_tree.specs.Tree as tree
 use Rattle.mc_tree.specs.Tree.{After, IsNextIn, IsOverIn, IsPastIn, Position}
-use Rattle.mc_flash.specs.Flash.{Content}
-use Rattle.mc_walk.specs.{TreeModel.{TreeModel}, Walks.{position_of, Walked, IsSame, origin_of}, declared.tour.Phase.{Phase}}
+use Rattle.mc_walk.specs.{TreeModel.{TreeModel}, Walks.{position_of, Walked, IsSame}, declared.tour.Phase.{Phase}}
 use Rattle.mc_walk.specs.declared.tour.Phase.TheVariants as phases
 use Rattle.mc_boot.specs.Plan.{PowerOn}
-use Rattle.mc_explore.specs.inner.Exploring.{AreKeys, FindsRow, IsBeyond, IsSound, Rowed, begun_of, state_of}
+use Rattle.mc_explore.specs.inner.Exploring.{AreKeys, FindsRow, IsBeyond, IsSound, Rowed, state_of}
 use Rattle.mc_explore.specs.Subject as states
 use Rattle.mc_explore.specs.Subject.{Finds, moved_to, Subject, IsRowAt}
 
-module _ {B C K R U N A T : Type 0} (x : Subject C K R U) (model : B → TreeModel N A T) (begins : B → Content → PowerOn) (choice : B → C) (key_of : B → Content → List ℕ → K)
-    (keys : (b : B) (c : Content) → AreKeys x (model b).tree ((model b).root c) (begins b c) (choice b) (key_of b c)) where
+module _ {B C K R U N A T : Type 0} (x : Subject C K R U) (model : B → TreeModel N A T) (begins : B → PowerOn) (choice : B → C) (key_of : B → List ℕ → K)
+    (keys : (b : B) → AreKeys x (model b).tree (model b).root (begins b) (choice b) (key_of b)) where
   -- ---- the keys in their order
 
-  module _ (b : B) (c : Content) (bound : ℕ) (path : List ℕ) (m : tree.IsMember (model b).tree ((model b).root c) bound path) where
-    past_there : (p : Phase) (l : List ℕ) → tree.IsMember (model b).tree ((model b).root c) bound l → IsPastIn x.Before (position_of p (key_of b c path)) (key_of b c l)
+  module _ (b : B) (bound : ℕ) (path : List ℕ) (m : tree.IsMember (model b).tree (model b).root bound path) where
+    past_there : (p : Phase) (l : List ℕ) → tree.IsMember (model b).tree (model b).root bound l → IsPastIn x.Before (position_of p (key_of b path)) (key_of b l)
         → tree.IsPast (position_of p path) l
     past_there phases.Fresh l n past = tt
-    past_there phases.Going l n past = ((keys b c).order bound path l m n).0 past
-    past_there phases.Done l n past = ((keys b c).order bound path l m n).0 past
+    past_there phases.Going l n past = ((keys b).order bound path l m n).0 past
+    past_there phases.Done l n past = ((keys b).order bound path l m n).0 past
     past_there phases.Broken l n past = absurd past
 
-    past_here : (p : Phase) (l : List ℕ) → tree.IsMember (model b).tree ((model b).root c) bound l → tree.IsPast (position_of p path) l
-        → IsPastIn x.Before (position_of p (key_of b c path)) (key_of b c l)
+    past_here : (p : Phase) (l : List ℕ) → tree.IsMember (model b).tree (model b).root bound l → tree.IsPast (position_of p path) l
+        → IsPastIn x.Before (position_of p (key_of b path)) (key_of b l)
     past_here phases.Fresh l n past = tt
-    past_here phases.Going l n past = ((keys b c).order bound path l m n).1 past
-    past_here phases.Done l n past = ((keys b c).order bound path l m n).1 past
+    past_here phases.Going l n past = ((keys b).order bound path l m n).1 past
+    past_here phases.Done l n past = ((keys b).order bound path l m n).1 past
     past_here phases.Broken l n past = absurd past
 
-    pub next_key : (p : Phase) (l : List ℕ) → tree.IsNext (tree.IsMember (model b).tree ((model b).root c) bound) (position_of p path) l
-        → IsNextIn x.Before (x.IsListed (begins b c) (choice b) bound) (position_of p (key_of b c path)) (key_of b c l)
+    pub next_key : (p : Phase) (l : List ℕ) → tree.IsNext (tree.IsMember (model b).tree (model b).root bound) (position_of p path) l
+        → IsNextIn x.Before (x.IsListed (begins b) (choice b) bound) (position_of p (key_of b path)) (key_of b l)
     next_key p l n = record {
-      listed = (keys b c).listed bound l n.listed;
+      listed = (keys b).listed bound l n.listed;
       past = past_here p l n.listed n.past;
       none_between = λ k listed past before.
-          let there = (keys b c).path_of bound k listed in
-          n.none_between there.0 there.1 (past_there p there.0 there.1 (subst (IsPastIn x.Before (position_of p (key_of b c path))) (sym there.2) past))
-          (((keys b c).order bound there.0 l there.1 n.listed).0 (subst (λ z. x.Before z (key_of b c l)) (sym there.2) before));
+          let there = (keys b).path_of bound k listed in
+          n.none_between there.0 there.1 (past_there p there.0 there.1 (subst (IsPastIn x.Before (position_of p (key_of b path))) (sym there.2) past))
+          (((keys b).order bound there.0 l there.1 n.listed).0 (subst (λ z. x.Before z (key_of b l)) (sym there.2) before));
     }
 
-    pub over_key : (p : Phase) → tree.IsOver (tree.IsMember (model b).tree ((model b).root c) bound) (position_of p path)
-        → IsOverIn x.Before (x.IsListed (begins b c) (choice b) bound) (position_of p (key_of b c path))
+    pub over_key : (p : Phase) → tree.IsOver (tree.IsMember (model b).tree (model b).root bound) (position_of p path)
+        → IsOverIn x.Before (x.IsListed (begins b) (choice b) bound) (position_of p (key_of b path))
     over_key p over = grind (arith, past_there)
 
   -- ---- the same walk, elsewhere
 
   module _ (old new : Walked B) (s : IsSame old new) where
-    pub same_begun : begun_of begins new ≡ begun_of begins old
-    same_begun = cc (s.flash_tree, s.origin)
+    pub same_begun : begins new.flash_tree ≡ begins old.flash_tree
+    same_begun = ap begins s.flash_tree
 
     -- A row that a walk gives of its path is one of where it began.
-    pub row_back : (path : List ℕ) (row : R) → IsRowAt x begins choice key_of new.flash_tree (origin_of new.seen) path row → IsRowAt x begins choice key_of old.flash_tree (origin_of old.seen) path row
+    pub row_back : (path : List ℕ) (row : R) → IsRowAt x begins choice key_of new.flash_tree path row → IsRowAt x begins choice key_of old.flash_tree path row
     row_back path row at = grind arith
 
   -- ---- what is found
@@ -79,10 +78,10 @@ module _ {B C K R U N A T : Type 0} (x : Subject C K R U) (model : B → TreeMod
 
       pub next_there : states.Finds x (state_of begins choice w here) (Some row)
       next_there =
-          let n = next_key w.flash_tree (origin_of w.seen) w.bound old.last beyond.listed old.phase new.last f.finds.0 in
-          let P : K → Type 0 = λ z. IsNextIn x.Before (x.IsListed (begins w.flash_tree (origin_of w.seen)) (choice w.flash_tree) w.bound) (position_of old.phase z) (x.key row) in
+          let n = next_key w.flash_tree w.bound old.last beyond.listed old.phase new.last f.finds.0 in
+          let P : K → Type 0 = λ z. IsNextIn x.Before (x.IsListed (begins w.flash_tree) (choice w.flash_tree) w.bound) (position_of old.phase z) (x.key row) in
           let Q : K → Type 0 =
-          λ z. IsNextIn x.Before (x.IsListed (begins w.flash_tree (origin_of w.seen)) (choice w.flash_tree) w.bound) (position_of old.phase (key_of w.flash_tree (origin_of w.seen) old.last)) z in
+          λ z. IsNextIn x.Before (x.IsListed (begins w.flash_tree) (choice w.flash_tree) w.bound) (position_of old.phase (key_of w.flash_tree old.last)) z in
           (subst P beyond.key_is (subst Q (sym f.finds.1.0) n), f.finds.1.1)
 
       module _ (k : K) (is : k ≡ x.key row) where

@@ -108,8 +108,8 @@ Explores = ExploresOn (λ explorer. explorer.usage) (λ explorer. explorer.state
 -- The rows of a subject, as they are listed.
 
 -- A row is that of a path, with its outcomes.
-abbrev pub IsRowAt : {B C K R U : Type 0} → Subject C K R U → (B → Content → PowerOn) → (B → C) → (B → Content → List ℕ → K) → B → Content → List ℕ → R → Type 0
-IsRowAt x begins choice key_of b c path row = (x.key row ≡ key_of b c path) × x.HasOutcome (begins b c) (choice b) row
+abbrev pub IsRowAt : {B C K R U : Type 0} → Subject C K R U → (B → PowerOn) → (B → C) → (B → List ℕ → K) → B → List ℕ → R → Type 0
+IsRowAt x begins choice key_of b path row = (x.key row ≡ key_of b path) × x.HasOutcome (begins b) (choice b) row
 
 module _ {C K R U : Type 0} (x : Subject C K R U) where
   -- A row of the whole list: one of the keys to go through, with its outcomes.

@@ -3,9 +3,8 @@ ghost use Rattle.std.specs.Prelude.{◌≡◌};
 ghost use Rattle.mc_explore.specs.declared.error.ExploreError.TheVariants.{Memory};
 ghost use Rattle.mc_explore.specs.Explores.{failure_of};
 
-use mc_flash::FlashError;
 use mc_walk::TourError;
-use std::alloc::{AllocError, AllocFailed};
+use std::alloc::AllocError;
 use thiserror::Error;
 
 /// Why an explorer gives up.
@@ -32,61 +31,6 @@ pub enum ExploreError {
     /// The cursor is of other rules.
     #[error("E61 OtherRules")]
     OtherRules,
-}
-
-/// Why a census is not taken. A table of its own is what a census grows; a flash that counts took its room when it was loaded.
-#[derive(Clone, Copy, Debug, PartialEq, Eq)]
-pub(crate) enum CensusError {
-    /// An allocation of a table failed.
-    Table,
-    /// The flash was refused memory.
-    Flash,
-}
-
-impl From<FlashError> for CensusError {
-    ghost use Rattle.mc_explore.specs.declared.error.CensusError.TheVariants.{Flash};
-
-    ghost from_gives = { λ _ e. e ≡ Flash };
-
-    fn from(_: FlashError) -> Self {
-        CensusError::Flash
-    }
-}
-
-impl From<AllocError> for CensusError {
-    ghost use Rattle.mc_explore.specs.declared.error.CensusError.TheVariants.{Table};
-
-    ghost from_gives = { λ _ e. e ≡ Table };
-
-    fn from(_: AllocError) -> Self {
-        CensusError::Table
-    }
-}
-
-impl<T: Drop> From<AllocFailed<T>> for CensusError {
-    ghost use Rattle.mc_explore.specs.declared.error.CensusError.TheVariants.{Table};
-
-    ghost from_gives = { λ _ e. e ≡ Table };
-
-    fn from(_: AllocFailed<T>) -> Self {
-        CensusError::Table
-    }
-}
-
-impl From<CensusError> for ExploreError {
-    ghost from_gives = { λ _ e. e ≡ Memory };
-
-    fn from(_: CensusError) -> Self {
-        ExploreError::Memory
-    }
-}
-
-impl From<FlashError> for ExploreError {
-    ghost from_gives = { λ _ e. e ≡ Memory };
-
-    fn from(_: FlashError) -> Self {
-        ExploreError::Memory
-    }
 }
 
 impl From<AllocError> for ExploreError {

@@ -22,7 +22,7 @@ use std::marker::Model;
 /// flash.
 #[derive(Drop)]
 pub struct Explorer<'a, F: Flash> {
-    pub(crate) inner: TreeExplorer<'a, F, OneRound>,
+    pub(crate) inner: TreeExplorer<'a, F, OneRound<'a>>,
 }
 
 impl<'a, F: Flash> Model for Explorer<'a, F> {

@@ -1,9 +1,9 @@
 //! The schedules of the most cuts: the outcomes after their last cuts are found among those at the cuts of another boot.
 ghost use Rattle.std.specs.Prelude.{◌≡◌, ℕ, List, ◌+◌, ◌∷◌, ◌++◌, [], ◌<◌, ◌≤◌, ◌^◌, length, slice_get, Some, IfOk, IfSome, MatchOption, true};
 ghost use Rattle.mc_boot.specs.Outcome.{outcome_of, shown};
-ghost use Rattle.mc_boot.specs.Plan.{PowerOn, again};
+ghost use Rattle.mc_boot.specs.Plan.{PowerOn};
 ghost use Rattle.mc_boot.specs.SharedTail.{index_in_parent};
-ghost use Rattle.mc_explore.specs.inner.LastCuts.{flash_at, AreAtCuts, AreLastCuts};
+ghost use Rattle.mc_explore.specs.inner.LastCuts.{boot_at, AreAtCuts, AreLastCuts};
 ghost use Rattle.mc_explore.specs.inner.OneRound.{begun_of};
 
 use crate::ahead::RowsAhead;
@@ -55,7 +55,7 @@ impl AtCuts {
     /// that one are there.
     pub fn find_last_cuts<F: Flash>(
         &self,
-        walk: &Walk<F, OneRound>,
+        walk: &Walk<F, OneRound<'_>>,
         path: &[u32],
     ) -> Option<RowsAhead<SharedTail>>
         requires stands { walk.now.stands ≡ true }
@@ -89,7 +89,7 @@ impl AtCuts {
     pub fn keep(&mut self, schedule: &[u32], outcome: Outcome)
         requires at_most { length schedule.now ≤ 16 }
         ensures { (x : PowerOn) → AreAtCuts x self.old.parent_path self.old.outcomes.items
-            → outcome_of (again x (flash_at x schedule.now)) ≡ Some (shown outcome)
+            → outcome_of (boot_at x schedule.now) ≡ Some (shown outcome)
             → AreAtCuts x self.new.parent_path self.new.outcomes.items }
     {
         let Some((last, before)) = schedule.split_last() else {

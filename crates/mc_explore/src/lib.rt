@@ -11,7 +11,6 @@ mod explorer;
 mod labels;
 mod last_cuts;
 mod laws;
-mod loading;
 mod one_round;
 mod output;
 mod pages;
@@ -40,7 +39,6 @@ pub use explorer::Explorer;
 pub use labels::Labels;
 pub use last_cuts::AtCuts;
 pub use laws::{one_list_of_rows, pages_join_up};
-pub use loading::load_for;
 pub use mc_boot::Kind;
 pub use mc_start::{
     Cursor, CursorError, Line, MOST_CUTS, MOST_LINE, RulesField, Schedule, ScheduleError, Start,
@@ -55,10 +53,10 @@ pub use row::Row;
 pub use row_text::{put_outcome, put_slots};
 pub use source::RowSource;
 pub use start_census::{go_to_child, take_census, take_rights};
-pub use subject::{Fields, Subject};
+pub use subject::{Fields, OfStart, Subject};
 pub use tally::{
     Tally, TallyOf, all_boot, survey, survey_right, survey_rows, survey_until, write_tally,
 };
 pub use torn::last_row;
 pub use tree_explorer::TreeExplorer;
-pub use tree_loading::load_walk;
+pub use tree_loading::{load_for, load_walk};

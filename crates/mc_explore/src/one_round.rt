@@ -1,12 +1,12 @@
-//! The tree of boots that are cut: a node is what a flash contains, and its child of a number is what the boot from there
-//! leaves that is cut before its operation of that number.
+//! The tree of boots that are cut: a node is what a boot begins with, and its child of a number is what the next one begins with
+//! where that boot is cut before its operation of that number.
 
 use mc_boot::{Boot, Outcome, SharedTail, outcome_after};
-use mc_flash::{Flash, FlashError, Layout, Slot};
+use mc_flash::{Flash, Slot};
 use mc_image::are_bytes;
 use mc_start::Start;
-use mc_trailer::Rules;
 use mc_walk::FlashTree;
+use std::alloc::AllocError;
 
 /// The summary of a flash: the boot from there, before its first operation, and its outcome where it is not cut.
 #[derive(Clone, Copy)]
@@ -15,26 +15,25 @@ pub struct Summary {
     pub outcome: Outcome,
 }
 
-/// The boots of a layout by the same rules, each of which can be cut.
+/// The boots from a start, each of which can be cut. Its layout, rules and known images serve for each of them.
 #[derive(Clone, Copy)]
-pub struct OneRound {
-    pub rules: Rules,
-    pub layout: Layout,
+pub struct OneRound<'a> {
+    pub start: &'a Start,
 }
 
-impl OneRound {
+impl<'a> OneRound<'a> {
     ghost use Rattle.std.specs.Prelude.{◌≡◌, ℕ, Some, IfOk, IfErr, IfSome, OnOk};
-    ghost use Rattle.mc_flash.specs.Flash.{Content};
-    ghost use Rattle.mc_flash.specs.Usage.{most_operations, Keeps, Allows, HasRoom, Spends, Stays};
+    ghost use Rattle.mc_boot.specs.Plan.{PowerOn, again};
+    ghost use Rattle.mc_flash.specs.Usage.{Keeps, Allows, HasRoom, Spends, Stays};
     ghost use Rattle.mc_walk.specs.TreeModel.{HasChild, IsChild, IsChildOf, IsChildSummary};
     ghost use Rattle.mc_explore.specs.inner.OneRound.{begins, one_round, most_of, BeginsOn, CanPass, CountsAtMost, GoesOnIn, HasRun, IsBegun, IsSummary, LeavesAlike, Passes};
 
     /// The boot at power-on from a flash. The secondary's image is hashed where it is none that the start is known to hold.
-    pub fn boot<F: Flash>(&self, flash: &F, start: &Start) -> Boot
-        ensures { IsBegun self.now.rules (F.seen flash.now) result }
+    pub fn boot<F: Flash>(&self, flash: &F) -> Boot
+        ensures { IsBegun (begins self.now).rules (F.seen flash.now) result }
     {
         are_bytes(flash.read(Slot::Secondary));
-        Boot::cold_among(flash, self.rules, &start.known())
+        Boot::cold_among(flash, self.start.rules(), &self.start.known())
     }
 
     /// Runs the boot at power-on to its end, and gives the summary of the flash where it began. An image that it leaves is hashed
@@ -42,47 +41,35 @@ impl OneRound {
     ///
     /// # Errors
     ///
-    /// `Memory` where the flash was refused memory.
-    pub fn run<F: Flash>(
-        &self,
-        flash: &mut F,
-        boot: Boot,
-        start: &Start,
-    ) -> Result<Summary, FlashError>
-        requires begun { BeginsOn self.now.rules self.now.layout (F.seen flash.old) boot }
-        requires room { Allows (most_of self.now.rules self.now.layout) (F.seen flash.old) }
-        ensures ran { IfOk result (λ summary. HasRun (begins self.now (F.seen
-            flash.old).content) summary
-            (F.seen flash.new).content) }
-        ensures counts { CountsAtMost (most_of self.now.rules self.now.layout) (F.seen flash.old)
+    /// Where the flash was refused memory.
+    pub fn run<F: Flash>(&self, flash: &mut F, boot: Boot) -> Result<Summary, AllocError>
+        requires begun { BeginsOn (begins self.now) (F.seen flash.old) boot }
+        requires room { Allows (most_of (begins self.now)) (F.seen flash.old) }
+        ensures ran { let x = again (begins self.now) (F.seen flash.old).content in IfOk result
+            (λ summary. HasRun x summary (F.seen flash.new).content) }
+        ensures counts { CountsAtMost (most_of (begins self.now)) (F.seen flash.old)
             (F.seen flash.new) }
-        ensures spends { Spends (most_operations self.now.rules.grain self.now.layout)
-            (F.seen flash.old) result (F.seen flash.new) }
-        ensures err { IfErr result (λ e. e ≡ FlashError.Memory) }
+        ensures spends { Spends (most_of (begins self.now)).entries (F.seen flash.old) result
+            (F.seen flash.new) }
     {
         let mut whole = boot;
         whole.finish(flash)?;
-        let outcome = whole.outcome_among(flash, &start.known());
+        let outcome = whole.outcome_among(flash, &self.start.known());
         Ok(Summary { boot, outcome })
     }
 
     // The same, and goes back.
-    fn run_and_return<F: Flash>(
-        &self,
-        flash: &mut F,
-        boot: Boot,
-        start: &Start,
-    ) -> Result<Summary, FlashError>
-        requires begun { BeginsOn self.now.rules self.now.layout (F.seen flash.old) boot }
-        requires room { HasRoom (most_of self.now.rules self.now.layout) (F.seen flash.old) }
-        ensures summary { IfOk result (IsSummary (begins self.now (F.seen flash.old).content)) }
+    fn run_and_return<F: Flash>(&self, flash: &mut F, boot: Boot) -> Result<Summary, AllocError>
+        requires begun { BeginsOn (begins self.now) (F.seen flash.old) boot }
+        requires room { HasRoom (most_of (begins self.now)) (F.seen flash.old) }
+        ensures summary { IfOk result (IsSummary (again (begins self.now) (F.seen
+            flash.old).content)) }
         ensures stays { OnOk result (Stays (F.seen flash.old) (F.seen flash.new)) }
-        ensures spends { Spends (most_operations self.now.rules.grain self.now.layout)
-            (F.seen flash.old) result (F.seen flash.new) }
-        ensures err { IfErr result (λ e. e ≡ FlashError.Memory) }
+        ensures spends { Spends (most_of (begins self.now)).entries (F.seen flash.old) result
+            (F.seen flash.new) }
     {
         let here = flash.mark()?;
-        let summary = self.run(flash, boot, start)?;
+        let summary = self.run(flash, boot)?;
         flash.back_to(here);
         Ok(summary)
     }
@@ -90,27 +77,19 @@ impl OneRound {
     /// The summary of a child on its way, where it follows from that of its parent: then the uncut boots of both leave the
     /// same flash. Elsewhere the boot at power-on from the child.
     #[inline]
-    pub fn derive<F: Flash>(
-        &self,
-        flash: &F,
-        at: &Boot,
-        parent: &Summary,
-        start: &Start,
-    ) -> Result<Summary, Boot>
-        requires { IsChild (one_round self.now.rules self.now.layout) at.now parent.now
-            (F.seen flash.now) }
-        ensures summary { IfOk result (IsChildSummary (one_round self.now.rules self.now.layout)
-            at.now
+    pub fn derive<F: Flash>(&self, flash: &F, at: &Boot, parent: &Summary) -> Result<Summary, Boot>
+        requires { IsChild (one_round (begins self.now)) at.now parent.now (F.seen flash.now) }
+        ensures summary { IfOk result (IsChildSummary (one_round (begins self.now)) at.now
             parent.now (F.seen flash.now)) }
-        ensures left { OnOk result (LeavesAlike self.now.rules self.now.layout at.now parent.now
+        ensures left { OnOk result (LeavesAlike (begins self.now) at.now parent.now
             (F.seen flash.now)) }
-        ensures begun { IfErr result (IsBegun self.now.rules (F.seen flash.now)) }
+        ensures begun { IfErr result (IsBegun (begins self.now).rules (F.seen flash.now)) }
     {
         // Before its first operation a boot has changed nothing.
         if at.count() == 0 {
             return Ok(*parent);
         }
-        let boot = self.boot(flash, start);
+        let boot = self.boot(flash);
         match outcome_after(at, &parent.outcome, &boot) {
             Some(outcome) => Ok(Summary { boot, outcome }),
             None => Err(boot),
@@ -126,11 +105,11 @@ impl OneRound {
         parent: &Summary,
         child: &Summary,
     ) -> Option<SharedTail>
-        requires { HasChild (one_round self.now.rules self.now.layout) at.now parent.now child.now
-            (F.seen flash.now) }
-        ensures { IfSome result (λ x. (s : Content) (i : ℕ)
-            → IsChildOf (one_round self.now.rules self.now.layout) s i at.now parent.now child.now
-            (F.seen flash.now) → GoesOnIn (begins self.now s) i x) }
+        requires { HasChild (one_round (begins self.now)) at.now parent.now child.now (F.seen
+            flash.now) }
+        ensures { IfSome result (λ tail. (x : PowerOn) (i : ℕ)
+            → IsChildOf (one_round (begins self.now)) x i at.now parent.now child.now
+            (F.seen flash.now) → GoesOnIn x i tail) }
     {
         outcome_after(at, &parent.outcome, &child.boot)?;
         SharedTail::find(flash, at, &child.boot)
@@ -140,24 +119,24 @@ impl OneRound {
     ///
     /// # Errors
     ///
-    /// `Memory` where the flash was refused memory.
-    pub fn pass<F: Flash>(&self, flash: &mut F, at: &mut Boot) -> Result<(), FlashError>
-        requires { CanPass self.now.rules self.now.layout at.old (F.seen flash.old) }
-        ensures passes { Passes self.now.rules self.now.layout at.old (F.seen flash.old) result
-            at.new (F.seen flash.new) }
+    /// Where the flash was refused memory.
+    pub fn pass<F: Flash>(&self, flash: &mut F, at: &mut Boot) -> Result<(), AllocError>
+        requires { CanPass (begins self.now) at.old (F.seen flash.old) }
+        ensures passes { Passes (begins self.now) at.old (F.seen flash.old) result at.new
+            (F.seen flash.new) }
         ensures keeps { OnOk result (Keeps (F.seen flash.old) (F.seen flash.new)) }
         ensures spends { Spends 1 (F.seen flash.old) result (F.seen flash.new) }
-        ensures err { IfErr result (λ e. e ≡ FlashError.Memory) }
     {
-        at.step(flash)
+        at.step(flash)?;
+        Ok(())
     }
 }
 
-impl FlashTree for OneRound {
-    ghost use Rattle.mc_flash.specs.Flash.{Content};
-    ghost use Rattle.mc_explore.specs.inner.OneRound.{one_round};
+impl FlashTree for OneRound<'_> {
+    ghost use Rattle.mc_boot.specs.Plan.{PowerOn};
+    ghost use Rattle.mc_explore.specs.inner.OneRound.{begins, one_round};
 
-    ghost Node = { Content };
+    ghost Node = { PowerOn };
 
     type Child = Boot;
 
@@ -165,10 +144,7 @@ impl FlashTree for OneRound {
 
     type Label = u32;
 
-    /// The start, which knows its images.
-    type Known = Start;
-
-    ghost model = { λ s. one_round s.rules s.layout };
+    ghost model = { λ o. one_round (begins o) };
 
     ghost label_of = { λ _ _ number. number };
 
@@ -180,17 +156,17 @@ impl FlashTree for OneRound {
         summary.outcome.ops
     }
 
-    fn first_child<F: Flash>(self, _flash: &mut F, summary: &Summary) -> Result<Boot, FlashError> {
+    fn first_child<F: Flash>(self, _flash: &mut F, summary: &Summary) -> Result<Boot, AllocError> {
         Ok(summary.boot)
     }
 
-    fn next<F: Flash>(self, flash: &mut F, at: &mut Boot) -> Result<(), FlashError> {
+    fn next<F: Flash>(self, flash: &mut F, at: &mut Boot) -> Result<(), AllocError> {
         self.pass(flash, at)
     }
 
-    fn root<F: Flash>(self, flash: &mut F, start: &Start) -> Result<Summary, FlashError> {
-        let boot = self.boot(flash, start);
-        self.run_and_return(flash, boot, start)
+    fn root<F: Flash>(self, flash: &mut F) -> Result<Summary, AllocError> {
+        let boot = self.boot(flash);
+        self.run_and_return(flash, boot)
     }
 
     #[inline]
@@ -199,11 +175,10 @@ impl FlashTree for OneRound {
         flash: &mut F,
         at: &Boot,
         parent: &Summary,
-        start: &Start,
-    ) -> Result<Summary, FlashError> {
-        match self.derive(flash, at, parent, start) {
+    ) -> Result<Summary, AllocError> {
+        match self.derive(flash, at, parent) {
             Ok(summary) => Ok(summary),
-            Err(boot) => self.run_and_return(flash, boot, start),
+            Err(boot) => self.run_and_return(flash, boot),
         }
     }
 }

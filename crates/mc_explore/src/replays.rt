@@ -4,18 +4,18 @@ ghost use Rattle.mc_flash.specs.Usage.{LeaveRoom, limits_for, no_counts};
 ghost use Rattle.mc_boot.specs.Outcome.{shown, after};
 ghost use Rattle.mc_walk.specs.inner.Stack.{most_at};
 ghost use Rattle.mc_walk.specs.Walks.{IsThere};
-ghost use Rattle.mc_explore.specs.inner.OneRound.{one_round, begun_of};
+ghost use Rattle.mc_explore.specs.inner.OneRound.{begun_of, one_round};
 ghost use Rattle.mc_explore.specs.Schedules.{IsReplayed, RefusesReplay, Restarts};
 ghost use Rattle.mc_start.specs.Start.{begun};
 ghost use Rattle.mc_explore.specs.inner.View.{Followed, IsLoaded};
 
-use crate::loading::load;
 use crate::one_round::{OneRound, Summary};
+use crate::tree_loading::load_walk;
 use mc_boot::{Outcome, restart_law};
 use mc_flash::{Flash, FlashError};
 use mc_start::{Schedule, Start};
 use mc_walk::Walk;
-use std::alloc::Global;
+use std::alloc::{AllocError, Global};
 use thiserror::Error;
 
 /// Why a schedule is not replayed.
@@ -39,58 +39,65 @@ impl From<FlashError> for ReplayError {
     }
 }
 
+impl From<AllocError> for ReplayError {
+    ghost use Rattle.mc_explore.specs.declared.replays.ReplayError.TheVariants.{Memory};
+
+    ghost from_gives = { λ _ e. e ≡ Memory };
+
+    fn from(_: AllocError) -> Self {
+        ReplayError::Memory
+    }
+}
+
 // Goes along cuts on a walk from a start: the walk at their end, and the summary there.
-fn follow<F: Flash>(
-    mut walk: Walk<F, OneRound>,
+fn follow<'a, F: Flash>(
+    mut walk: Walk<F, OneRound<'a>>,
     cuts: &[u32],
-    start: &Start,
-) -> Result<(Walk<F, OneRound>, Summary), ReplayError>
+) -> Result<(Walk<F, OneRound<'a>>, Summary), ReplayError>
     requires loaded { IsLoaded F.counted (begun_of walk) (length cuts.now) walk }
     requires at_most { length cuts.now ≤ 16 }
-    ensures followed { IfOk result (λ at. Followed F.counted (begun_of walk) (length cuts.now)
+    ensures followed { IfOk result (λ at. Followed F.counted (begun_of walk.entry) (length cuts.now)
         cuts.now at.0) }
-    ensures summary { IfOk result (λ at. IsThere
-        (one_round at.0.flash_tree.rules at.0.flash_tree.layout) at.0 at.1) }
+    ensures summary { IfOk result (λ at. IsThere (one_round (begun_of at.0)) at.0 at.1) }
     ensures limits { IfOk result
-        (λ at. at.0.seen.usage.limits ≡ walk.seen.usage.limits) }
-    ensures refused { IfErr result (RefusesReplay (begun_of walk) cuts.now) }
+        (λ at. at.0.seen.usage.limits ≡ walk.entry.seen.usage.limits) }
+    ensures refused { IfErr result (RefusesReplay (begun_of walk.entry) cuts.now) }
     ensures cause { IsErrOf result ReplayError.Memory → F.counted ≡ false }
 {
-    walk.begin(start)?;
-    if !walk.follow(cuts, start)? {
+    walk.begin()?;
+    if !walk.follow(cuts)? {
         return Err(ReplayError::CannotOccur(walk.path().len()));
     }
     let summary = *walk.summary();
     Ok((walk, summary))
 }
 
-/// Goes along cuts on a walk from the flash of a start or of a later round: the outcome of the uncut boot after them, and the flash that it leaves.
+/// Goes along cuts on a walk from a start: the outcome of the uncut boot after them, and the flash that it leaves.
 ///
 /// # Errors
 ///
 /// `CannotOccur` with the number of the first cut that is not less than the operations that its boot makes uncut; `Memory` where
 /// the flash was refused memory, which one that counts never is.
 pub fn replay_on<F: Flash>(
-    walk: Walk<F, OneRound>,
+    walk: Walk<F, OneRound<'_>>,
     cuts: &[u32],
-    start: &Start,
 ) -> Result<(Outcome, F), ReplayError>
     requires loaded { IsLoaded F.counted (begun_of walk) (length cuts.now) walk }
     requires at_most { length cuts.now ≤ 16 }
-    ensures replayed { let s = begun_of walk in MatchResult result
+    ensures replayed { let s = begun_of walk.entry in MatchResult result
         (λ done. IsReplayed s cuts.now (shown done.0) (F.seen done.1).content)
         (λ e. RefusesReplay s cuts.now e) }
     ensures geometry { IfOk result
-        (λ done. (F.seen done.1).geometry ≡ (begun_of walk).geometry) }
+        (λ done. (F.seen done.1).geometry ≡ (begun_of walk.entry).geometry) }
     ensures limits { IfOk result
-        (λ done. (F.seen done.1).usage.limits ≡ walk.seen.usage.limits) }
+        (λ done. (F.seen done.1).usage.limits ≡ walk.entry.seen.usage.limits) }
     // No more is counted than a boot for each cut and one more make.
-    ensures counts { let s = begun_of walk in IfOk result
+    ensures counts { let s = begun_of walk.entry in IfOk result
         (λ done. LeaveRoom (F.seen done.1).usage.counts no_counts
-        (most_at (one_round s.rules s.geometry) (length cuts.now))) }
+        (most_at (one_round s) (length cuts.now))) }
     ensures cause { IsErrOf result ReplayError.Memory → F.counted ≡ false }
 {
-    let (there, summary) = follow(walk, cuts, start)?;
+    let (there, summary) = follow(walk, cuts)?;
     let mut flash = there.into_flash();
     let mut boot = summary.boot;
     boot.finish(&mut flash)?;
@@ -121,8 +128,8 @@ pub fn replay<F: Flash>(
 {
     restart_law();
     let cuts = schedule.cuts();
-    let walk = load(alloc, start, cuts.len() as u8)?;
-    let done = replay_on(walk, cuts, start)?;
+    let walk = load_walk(alloc, start, cuts.len() as u8, ())?;
+    let done = replay_on(walk, cuts)?;
     Ok(done)
 }
 
@@ -146,7 +153,7 @@ pub fn flash_at_cut<F: Flash>(
         ≡ limits_for start.now.rules.grain start.now.geometry (length schedule.now + 1)) }
 {
     let cuts = schedule.cuts();
-    let walk = load(alloc, start, cuts.len() as u8)?;
-    let (there, _) = follow(walk, cuts, start)?;
+    let walk = load_walk(alloc, start, cuts.len() as u8, ())?;
+    let (there, _) = follow(walk, cuts)?;
     Ok(there.into_flash())
 }

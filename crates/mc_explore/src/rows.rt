@@ -1,13 +1,13 @@
 //! The rows of an exploration, one after another.
 ghost use Rattle.std.specs.Prelude.{◌≡◌, ℕ, List, ◌≤◌, [], true, option_map, IfOk};
 ghost use Rattle.mc_tree.specs.Tree.{Position};
-ghost use Rattle.mc_walk.specs.Walks.{Costs, Visits, IsFresh, origin_of};
+ghost use Rattle.mc_walk.specs.Walks.{Costs, Visits, IsFresh};
 ghost use Rattle.mc_explore.specs.inner.Exploring.{CostsRow, FindsRow, StandsFor};
 
 use crate::ahead::{RowsAhead, still_to_come};
 use crate::subject::Subject;
 use mc_flash::Flash;
-use mc_start::{Schedule, Start};
+use mc_start::Schedule;
 use mc_walk::{Phase, Tour, TourError, Walk};
 use std::marker::Model;
 
@@ -41,7 +41,6 @@ impl<F: Flash, X: Subject> Model for Rows<F, X> {
 fn next_node<F: Flash, X: Subject>(
     tour: &mut Tour<F, X>,
     is_beyond: bool,
-    start: &Start,
 ) -> Result<bool, TourError>
     ensures visits { IfOk result (λ went. (position : Position (List ℕ))
         → StandsFor X.model is_beyond tour.old position
@@ -49,9 +48,9 @@ fn next_node<F: Flash, X: Subject>(
     ensures costs { Costs (X.model tour.old.walk.flash_tree) tour.old result tour.new }
 {
     if is_beyond {
-        tour.leave(start)
+        tour.leave()
     } else {
-        tour.visit(start)
+        tour.visit()
     }
 }
 
@@ -60,7 +59,7 @@ impl<F: Flash + Drop, X: Subject> Rows<F, X> {
     pub fn fresh(walk: Walk<F, X>, kept: X::Kept) -> Rows<F, X>
         requires fresh { IsFresh (X.model walk.flash_tree) walk }
         requires at_most { walk.bound ≤ 16 }
-        requires kept { X.holds walk.flash_tree (origin_of walk.seen) kept }
+        requires kept { X.holds walk.flash_tree kept }
         ensures { result ≡ record { walk = walk; phase = Phase.Fresh; last = [] } }
     {
         let tour = Tour::fresh(walk);
@@ -76,7 +75,7 @@ impl<F: Flash + Drop, X: Subject> Rows<F, X> {
     pub fn after(walk: Walk<F, X>, kept: X::Kept) -> Rows<F, X>
         requires stands { walk.stands ≡ true }
         requires at_most { walk.bound ≤ 16 }
-        requires kept { X.holds walk.flash_tree (origin_of walk.seen) kept }
+        requires kept { X.holds walk.flash_tree kept }
         ensures { result ≡ record { walk = walk; phase = Phase.Going; last = walk.path } }
     {
         let path = Schedule::of(walk.path().as_slice());
@@ -93,20 +92,21 @@ impl<F: Flash + Drop, X: Subject> Rows<F, X> {
     /// # Errors
     ///
     /// `Memory` where the flash was refused memory; from then on always `Failed`.
-    pub fn next(&mut self, start: &Start) -> Result<Option<X::Row>, TourError>
+    pub fn next(&mut self) -> Result<Option<X::Row>, TourError>
         ensures finds { IfOk result (λ found. FindsRow X.subject X.model X.begins X.choice X.key_of
             self.old (option_map X.shown found) self.new) }
         ensures costs { CostsRow X.model self.old result self.new }
     {
         if let Some(rows) = still_to_come(self.ahead) {
-            let row = X::row_ahead(&self.kept, &self.path, &rows);
+            let flash_tree = self.tour.walk().flash_tree();
+            let row = flash_tree.row_ahead(&self.kept, &self.path, &rows);
             self.ahead = Some(RowsAhead {
                 next: rows.next + 1,
                 ..rows
             });
             return Ok(row);
         }
-        if !next_node(&mut self.tour, self.ahead.is_some(), start)? {
+        if !next_node(&mut self.tour, self.ahead.is_some())? {
             return Ok(None);
         }
         let walk = self.tour.walk();
@@ -115,6 +115,13 @@ impl<F: Flash + Drop, X: Subject> Rows<F, X> {
         self.ahead = X::arrive(&mut self.kept, walk, &path);
         self.path = path;
         Ok(Some(row))
+    }
+
+    /// The tree.
+    pub fn flash_tree(&self) -> X
+        ensures { result ≡ self.now.walk.flash_tree }
+    {
+        self.tour.walk().flash_tree()
     }
 
     /// The flash as it is.

@@ -1,14 +1,13 @@
 //! Schedules, as what an explorer goes through.
 use crate::ahead::RowsAhead;
 use crate::countable::{Countable, Ending};
-use crate::error::ExploreError;
 use crate::labels::Labels;
 use crate::last_cuts::AtCuts;
 use crate::one_round::{OneRound, Summary};
 use crate::row::Row;
-use crate::subject::{Fields, Subject};
+use crate::subject::{Fields, OfStart, Subject};
 use mc_boot::{Boot, Outcome, SharedTail, restart_law};
-use mc_flash::{Flash, FlashError, most_operations};
+use mc_flash::{Flash, most_operations};
 use mc_start::{Cursor, Line, Schedule, Start};
 use mc_walk::Walk;
 use std::alloc::{AllocError, Global};
@@ -16,9 +15,11 @@ use std::alloc::{AllocError, Global};
 /// For how many cuts of one boot an explorer keeps the outcomes, at the most.
 const MOST_KEPT: u64 = 0x1_0000;
 
-impl Subject for OneRound {
-    ghost use Rattle.std.specs.Prelude.{◌≡◌};
+impl Subject for OneRound<'_> {
+    ghost use Rattle.std.specs.Prelude.{◌≡◌, ◌≢◌, ◌↔◌, ◌++◌, ◌+◌, ◌<◌, ◌≤◌, [], length, true, false};
+    ghost use Rattle.mc_boot.specs.Outcome.{shown};
     ghost use Rattle.mc_boot.specs.Plan.{PowerOn};
+    ghost use Rattle.mc_tree.specs.Tree.{Precedes};
     ghost use Rattle.mc_start.specs.Cursor.{cursor_of};
     ghost use Rattle.mc_start.specs.Start.{start_digest};
     ghost use Rattle.mc_tree.specs.facts.Order.{paths_in_order};
@@ -49,46 +50,42 @@ impl Subject for OneRound {
 
     ghost choice = { λ _. tt };
 
-    ghost key_of = { λ _ _ path. path };
+    ghost key_of = { λ _ path. path };
 
     ghost shown = { states.shown_row };
 
     ghost fields = { fields_of };
 
-    ghost holds = { λ o c kept. AreAtCuts (begins o c) kept.parent_path kept.outcomes.items };
+    ghost holds = { λ o kept. AreAtCuts (begins o) kept.parent_path kept.outcomes.items };
 
-    ghost is_ahead = { λ o c kept path shared_tail count. AreLastCuts (begins o c) kept.parent_path path
+    ghost is_ahead = { λ o kept path shared_tail count. AreLastCuts (begins o) kept.parent_path path
         kept.outcomes.items shared_tail count };
 
-    ghost MORE = { 1 };
+    ghost more = { 1 };
 
-    const MORE: u32 = 1;
-
-    fn of(start: &Start, _chosen: ()) -> OneRound {
-        OneRound {
-            rules: start.rules(),
-            layout: *start.layout(),
-        }
+    fn more(self) -> u32 {
+        1
     }
 
-    fn is_choice(_one: &(), _other: &()) -> bool {
-        true
+    fn is_choice(one: &(), other: &()) -> bool
+        ensures yes { result ≡ true → one.now ≡ other.now }
+        ensures no { result ≡ false → one.now ≢ other.now }
+    {
+        *one == *other
     }
 
-    fn none() -> Schedule {
+    fn none() -> Schedule
+        ensures { result ≡ [] }
+    {
         Schedule::new()
     }
 
-    fn follow<F: Flash>(
-        walk: &mut Walk<F, OneRound>,
-        key: &Schedule,
-        start: &Start,
-    ) -> Result<bool, FlashError> {
-        let went = walk.follow(key.cuts(), start)?;
+    fn follow<F: Flash>(walk: &mut Walk<F, Self>, key: &Schedule) -> Result<bool, AllocError> {
+        let went = walk.follow(key.cuts())?;
         Ok(went)
     }
 
-    fn row<F: Flash>(walk: &Walk<F, OneRound>, path: &Schedule) -> Row {
+    fn row<F: Flash>(walk: &Walk<F, Self>, path: &Schedule) -> Row {
         Row {
             schedule: *path,
             outcome: walk.summary().outcome,
@@ -96,7 +93,8 @@ impl Subject for OneRound {
     }
 
     // Below two cuts no boot goes on with another that could be cut as well.
-    fn kept(alloc: Global, start: &Start, bound: u8) -> Result<AtCuts, AllocError> {
+    fn kept(self, alloc: Global, bound: u8) -> Result<AtCuts, AllocError> {
+        let start = self.start;
         let most = match bound {
             0 | 1 => 0,
             _ => most_operations(start.layout(), start.rules().grain).min(MOST_KEPT),
@@ -106,7 +104,7 @@ impl Subject for OneRound {
 
     fn arrive<F: Flash>(
         kept: &mut AtCuts,
-        walk: &Walk<F, OneRound>,
+        walk: &Walk<F, Self>,
         path: &Schedule,
     ) -> Option<RowsAhead<SharedTail>> {
         let path = path.cuts();
@@ -122,7 +120,12 @@ impl Subject for OneRound {
     }
 
     #[inline]
-    fn row_ahead(kept: &AtCuts, path: &Schedule, rows: &RowsAhead<SharedTail>) -> Option<Row> {
+    fn row_ahead(
+        self,
+        kept: &AtCuts,
+        path: &Schedule,
+        rows: &RowsAhead<SharedTail>,
+    ) -> Option<Row> {
         let outcome = kept.outcome(&rows.ahead, rows.next)?;
         let mut schedule = *path;
         schedule.push(rows.next);
@@ -130,24 +133,32 @@ impl Subject for OneRound {
     }
 
     #[inline]
-    fn key(row: &Row) -> Schedule {
+    fn key(row: &Row) -> Schedule
+        ensures { result ≡ (states.shown_row row.now).schedule }
+    {
         row.schedule
     }
 
-    fn end(row: &Row) -> Outcome {
+    fn end(row: &Row) -> Outcome
+        ensures { shown result ≡ (states.shown_row row.now).outcome }
+    {
         row.outcome
     }
 
     #[inline]
-    fn is_before(row: &Row, key: &Schedule) -> bool {
+    fn is_before(row: &Row, key: &Schedule) -> bool
+        ensures { (result ≡ true) ↔ Precedes (states.shown_row row.now).schedule key.now }
+    {
         row.schedule.is_before(key)
     }
 
-    fn restarts() {
+    fn restarts(self) {
         restart_law();
     }
 
-    fn fields(cursor: &Cursor) -> Fields<(), Schedule> {
+    fn fields(cursor: &Cursor) -> Fields<(), Schedule>
+        ensures { result ≡ fields_of cursor.now }
+    {
         let digest = cursor.digest;
         Fields {
             rules: cursor.rules,
@@ -171,38 +182,56 @@ impl Subject for OneRound {
         }
     }
 
-    fn put_row(row: &Row, line: &mut Line, labels: &Labels) {
+    fn put_row(row: &Row, line: &mut Line, labels: &Labels)
+        requires { line.old ≡ [] }
+        ensures text { line.new ≡ subject.row_text (states.shown_row row.now) }
+        ensures length { length line.new < 512 }
+    {
         row.put_into(line, labels);
     }
 
-    fn put_key(key: &Schedule, line: &mut Line) {
+    fn put_key(key: &Schedule, line: &mut Line)
+        requires { length line.old + 208 ≤ 512 }
+        ensures text { line.new ≡ line.old ++ subject.key_text key.now }
+        ensures length { length line.new ≤ length line.old + 208 }
+    {
         key.put_into(line);
     }
 
-    fn put_cursor(cursor: &Cursor, line: &mut Line) {
+    fn put_cursor(cursor: &Cursor, line: &mut Line)
+        requires { length line.old + 303 ≤ 512 }
+        ensures text { line.new ≡ line.old ++ subject.cursor_text cursor.now }
+        ensures length { length line.new ≤ length line.old + 303 }
+    {
         cursor.put_into(line);
     }
 
-    ghost are_keys = { are_schedules };
+    ghost are_keys = { λ o. are_schedules (begins o) };
 
     ghost order = { paths_in_order };
 
     ghost some_rest = { some_rest };
 
-    ghost costs = { schedule_costs };
+    ghost costs = { λ o. schedule_costs (begins o) };
 
     ghost few_more = { one_more };
 
-    ghost clear = { schedules_clear };
+    ghost clear = { λ o. schedules_clear (begins o) };
 }
 
-impl Ending for OneRound {
+impl<'a> OfStart<'a> for OneRound<'a> {
+    fn of(start: &'a Start, _chosen: ()) -> OneRound<'a> {
+        OneRound { start }
+    }
+}
+
+impl Ending for OneRound<'_> {
     ghost use Rattle.mc_explore.specs.facts.Listed.{report_after};
     ghost use Rattle.mc_explore.specs.inner.OneRound.{begins};
 
-    ghost report_of = { λ o c path. report_after (begins o c) path };
+    ghost report_of = { λ o path. report_after (begins o) path };
 
-    fn ended(summary: &Summary) -> Outcome {
+    fn ended(self, summary: &Summary) -> Outcome {
         summary.outcome
     }
 
@@ -217,25 +246,20 @@ impl Ending for OneRound {
     }
 }
 
-impl Countable for OneRound {
+impl Countable for OneRound<'_> {
     ghost use Rattle.std.specs.Prelude.{refl};
     ghost use Rattle.mc_explore.specs.facts.Listed.{all_rows, row_at};
     ghost use Rattle.mc_explore.specs.inner.OneRound.{begins};
 
-    fn key_at<F: Flash>(
-        _alloc: Global,
-        _start: &Start,
-        _chosen: (),
-        path: &Schedule,
-    ) -> Result<Schedule, ExploreError> {
+    fn key_at<F: Flash>(self, _alloc: Global, path: &Schedule) -> Result<Schedule, AllocError> {
         Ok(*path)
     }
 
-    ghost row_of = { λ o c path. row_at (begins o c) path };
+    ghost row_of = { λ o path. row_at (begins o) path };
 
-    ghost row_ends = { λ o c path. refl };
+    ghost row_ends = { λ o path. refl };
 
-    ghost row_key = { λ o c path. refl };
+    ghost row_key = { λ o path. refl };
 
-    ghost all_rows = { λ o c bound. all_rows (begins o c) bound };
+    ghost all_rows = { λ o bound. all_rows (begins o) bound };
 }

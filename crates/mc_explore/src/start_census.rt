@@ -1,35 +1,35 @@
 //! Takes the census of a start: level by level, without going through the rows.
-ghost use Rattle.std.specs.Prelude.{◌≡◌, ◌+◌, ◌≤◌, length, true, false, IfOk, IfErr, IfSome, IsErr, IsErrOf, OnOk};
+ghost use Rattle.std.specs.Prelude.{◌≡◌, ◌+◌, ◌≤◌, length, true, false, IfOk, IfErr, IfSome, IsErr, OnOk};
 ghost use Rattle.mc_boot.specs.Outcome.{shown};
 ghost use Rattle.mc_start.specs.Start.{begun};
 ghost use Rattle.mc_explore.specs.Census.{IsCensus, IsCensusOf};
 ghost use Rattle.mc_explore.specs.Right.{AreRights, judged};
 ghost use Rattle.mc_explore.specs.inner.Table.{CanPass, HasSameLimits, HasWeights, IsTailHere, PassesBelow, ReachesChild, paths_of};
-ghost use Rattle.mc_walk.specs.Walks.{IsPath, origin_of};
+ghost use Rattle.mc_walk.specs.Walks.{IsPath};
 
 use crate::census::{Census, CensusOf};
 use crate::countable::{Countable, Ending};
-use crate::error::{CensusError, ExploreError};
+use crate::error::ExploreError;
 use crate::expectation::Expectation;
 use crate::rights::RightsOf;
+use crate::subject::OfStart;
 use crate::table::{Below, add_child, census_at, column_of};
 use crate::tree_loading::load_walk;
 use mc_boot::{Outcome, SharedTail};
-use mc_flash::{Flash, FlashError};
+use mc_flash::Flash;
 use mc_start::Start;
 use mc_walk::Walk;
-use std::alloc::Global;
+use std::alloc::{AllocError, Global};
 
 /// Goes to the child of that number of a node, where the walk has passed those before it.
 ///
 /// # Errors
 ///
-/// `Memory` where the flash was refused memory, which one that counts never is.
+/// Where the flash was refused memory, which one that counts never is.
 pub fn go_to_child<F: Flash, X: Ending>(
     walk: &mut Walk<F, X>,
     number: u32,
-    start: &Start,
-) -> Result<(), FlashError>
+) -> Result<(), AllocError>
     requires stands { walk.old.stands ≡ true }
     requires passed { CanPass (X.model walk.old.flash_tree) number walk.old }
     ensures reaches { OnOk result (ReachesChild (X.model walk.old.flash_tree) number walk.old
@@ -38,9 +38,9 @@ pub fn go_to_child<F: Flash, X: Ending>(
     ensures cause { IsErr result → walk.old.seen.usage.limits.counted ≡ false }
 {
     if number == 0 {
-        walk.go_down(0, start)?;
+        walk.go_down(0)?;
     } else {
-        walk.climb(start)?;
+        walk.climb()?;
     }
     Ok(())
 }
@@ -63,24 +63,20 @@ struct End {
 }
 
 // Goes to that child, and tells how the path ends there.
-fn visit_child<F: Flash, X: Ending>(
-    walk: &mut Walk<F, X>,
-    number: u32,
-    start: &Start,
-) -> Result<End, FlashError>
+fn visit_child<F: Flash, X: Ending>(walk: &mut Walk<F, X>, number: u32) -> Result<End, AllocError>
     requires stands { walk.old.stands ≡ true }
     requires passed { CanPass (X.model walk.old.flash_tree) number walk.old }
     ensures reaches { OnOk result (ReachesChild (X.model walk.old.flash_tree) number walk.old
         walk.new) }
     ensures ended { IfOk result (λ end. shown end.outcome ≡ X.report_of walk.new.flash_tree
-        (origin_of walk.new.seen) walk.new.path) }
+        walk.new.path) }
     ensures tail { IfOk result (λ end. IfSome end.tail (IsTailHere X.model X.report_of walk.new)) }
     ensures limits { OnOk result (HasSameLimits walk.old walk.new) }
     ensures cause { IsErr result → walk.old.seen.usage.limits.counted ≡ false }
 {
-    go_to_child(walk, number, start)?;
+    go_to_child(walk, number)?;
     Ok(End {
-        outcome: X::ended(walk.summary()),
+        outcome: walk.flash_tree().ended(walk.summary()),
         tail: tail_here(walk),
     })
 }
@@ -91,31 +87,30 @@ fn column<F: Flash, X: Ending>(
     alloc: Global,
     walk: &mut Walk<F, X>,
     bound: u32,
-    start: &Start,
     expectation: &Expectation,
-) -> Result<Vec<Census>, CensusError>
+) -> Result<Vec<Census>, AllocError>
     requires stands { walk.old.stands ≡ true }
     requires listed { IsPath (X.model walk.old.flash_tree) walk.old walk.old.path }
     requires deep { length walk.old.path + bound ≡ walk.old.bound }
     ensures column { IfOk result (λ column. HasWeights
-        (paths_of (X.model walk.old.flash_tree) walk.old)
-        (X.report_of walk.old.flash_tree (origin_of walk.old.seen)) expectation.now walk.old.path
+        (paths_of (X.model walk.old.flash_tree))
+        (X.report_of walk.old.flash_tree) expectation.now walk.old.path
         (bound + 1) column.items) }
     ensures passes { OnOk result (PassesBelow (X.model walk.old.flash_tree) walk.old walk.new) }
-    ensures cause { IsErrOf result CensusError.Flash → walk.old.seen.usage.limits.counted ≡ false }
 {
+    let flash_tree = walk.flash_tree();
     let summary = *walk.summary();
-    let own = Census::of(&expectation.judge(&X::ended(&summary)));
+    let own = Census::of(&expectation.judge(&flash_tree.ended(&summary)));
     if bound == 0 {
         return Ok(vec![in alloc; own]?);
     }
-    let count = walk.flash_tree().width(&summary);
+    let count = flash_tree.width(&summary);
     let mut runs = Vec::new(alloc);
     for number in 0..count {
-        let end = visit_child(walk, number, start)?;
+        let end = visit_child(walk, number)?;
         let below = match end.tail {
             Some(shared_tail) => Below::Joined(shared_tail),
-            None => Below::Apart(column(alloc, walk, bound - 1, start, expectation)?),
+            None => Below::Apart(column(alloc, walk, bound - 1, expectation)?),
         };
         let outcome = expectation.judge(&end.outcome);
         add_child(&mut runs, number, outcome, below)?;
@@ -124,9 +119,9 @@ fn column<F: Flash, X: Ending>(
 }
 
 // The census of a start, where only an outcome that meets the expectation counts as a boot.
-fn judged_census<F: Flash, X: Countable>(
+fn judged_census<'a, F: Flash, X: OfStart<'a> + Countable>(
     alloc: Global,
-    start: &Start,
+    start: &'a Start,
     bound: u8,
     chosen: X::Choice,
     expectation: &Expectation,
@@ -137,12 +132,13 @@ fn judged_census<F: Flash, X: Countable>(
     ensures err { IfErr result (λ e. e ≡ ExploreError.Memory) }
 {
     let mut walk: Walk<F, X> = load_walk(alloc, start, bound, chosen)?;
-    walk.begin(start)?;
+    let flash_tree = walk.flash_tree();
+    walk.begin()?;
     let most = u32::from(bound);
-    let column = column(alloc, &mut walk, most, start, expectation)?;
+    let column = column(alloc, &mut walk, most, expectation)?;
     let census = census_at(&column, usize::from(bound));
     let first_not_boot = match &census.first_not_boot {
-        Some(path) => Some(X::key_at::<F>(alloc, start, chosen, path)?),
+        Some(path) => Some(flash_tree.key_at::<F>(alloc, path)?),
         None => None,
     };
     Ok(CensusOf {
@@ -163,9 +159,9 @@ fn judged_census<F: Flash, X: Countable>(
 /// # Errors
 ///
 /// `Memory` where an allocation failed.
-pub fn take_census<F: Flash, X: Countable>(
+pub fn take_census<'a, F: Flash, X: OfStart<'a> + Countable>(
     alloc: Global,
-    start: &Start,
+    start: &'a Start,
     bound: u8,
     chosen: X::Choice,
 ) -> Result<CensusOf<X::Key>, ExploreError>
@@ -184,9 +180,9 @@ pub fn take_census<F: Flash, X: Countable>(
 /// # Errors
 ///
 /// `Memory` where an allocation failed.
-pub fn take_rights<F: Flash, X: Countable>(
+pub fn take_rights<'a, F: Flash, X: OfStart<'a> + Countable>(
     alloc: Global,
-    start: &Start,
+    start: &'a Start,
     bound: u8,
     chosen: X::Choice,
     expectation: &Expectation,

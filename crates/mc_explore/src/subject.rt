@@ -2,7 +2,7 @@
 use crate::ahead::RowsAhead;
 use crate::labels::Labels;
 use mc_boot::Outcome;
-use mc_flash::{Flash, FlashError};
+use mc_flash::Flash;
 use mc_start::{Line, Schedule, Start};
 use mc_trailer::Rules;
 use mc_walk::{FlashTree, Walk};
@@ -19,17 +19,16 @@ pub struct Fields<C, K> {
 }
 
 /// A kind of tree whose paths are gone through as rows, each found by a key.
-pub trait Subject: FlashTree<Known = Start> {
-    ghost use Rattle.std.specs.Prelude.{◌≡◌, ◌≢◌, ◌↔◌, ℕ, ◌+◌, ◌<◌, ◌≤◌, Bool, ◌^◌, List, [], ◌∷◌, length, ◌++◌, true, false, IfOk, IfErr, IfSome, IsSomeAnd, OnOk};
+pub trait Subject: FlashTree {
+    ghost use Rattle.std.specs.Prelude.{◌≡◌, ◌≢◌, ◌↔◌, ℕ, ◌+◌, ◌<◌, ◌≤◌, Bool, ◌^◌, List, [], ◌∷◌, length, ◌++◌, true, false, IfOk, IfSome, IsSomeAnd, OnOk};
     ghost use Rattle.mc_tree.specs.Tree.{Allowed};
     ghost use Rattle.mc_tree.specs.facts.Order.{IsOrder};
-    ghost use Rattle.mc_flash.specs.Flash.{Content};
     ghost use Rattle.mc_flash.specs.Geometry.{IsLayout};
     ghost use Rattle.mc_flash.specs.Usage.{Seen};
     ghost use Rattle.mc_boot.specs.Outcome as outcomes;
     ghost use Rattle.mc_boot.specs.Plan.{PowerOn};
-    ghost use Rattle.mc_start.specs.Start.{begun, start_digest};
-    ghost use Rattle.mc_walk.specs.Walks.{IsClear, IsPath, origin_of};
+    ghost use Rattle.mc_start.specs.Start.{start_digest};
+    ghost use Rattle.mc_walk.specs.Walks.{IsClear, IsPath};
     ghost use Rattle.mc_explore.specs.Pages.{IsRest};
     ghost use Rattle.mc_explore.specs.Subject as subjects;
     ghost use Rattle.mc_explore.specs.declared.subject.Fields.{Fields as FieldsOf};
@@ -58,29 +57,25 @@ pub trait Subject: FlashTree<Known = Start> {
 
     ghost subject: { subjects.Subject Self.Choice Self.Key Shown Self.Cursor };
 
-    ghost begins: { Self → Content → PowerOn };
+    ghost begins: { Self → PowerOn };
 
     ghost choice: { Self → Self.Choice };
 
-    ghost key_of: { Self → Content → List ℕ → Self.Key };
+    ghost key_of: { Self → List ℕ → Self.Key };
 
     ghost shown: { Self.Row → Shown };
 
     ghost fields: { Self.Cursor → FieldsOf Self.Choice Self.Key };
 
-    ghost holds: { Self → Content → Self.Kept → Type 0 };
+    ghost holds: { Self → Self.Kept → Type 0 };
 
-    ghost is_ahead: { Self → Content → Self.Kept → List ℕ → Self.Ahead → ℕ → Type 0 };
+    ghost is_ahead: { Self → Self.Kept → List ℕ → Self.Ahead → ℕ → Type 0 };
 
-    ghost MORE: { ℕ };
+    ghost more: { ℕ };
 
     /// For how many boots more than there are cuts the flash is loaded.
-    const MORE: u32;
-
-    /// The kind of tree from a start, under a choice.
-    fn of(start: &Start, chosen: Self::Choice) -> Self
-        ensures begins { begins result (begun start.now).content ≡ begun start.now }
-        ensures choice { choice result ≡ chosen };
+    fn more(self) -> u32
+        ensures { result ≡ more };
 
     /// Whether two choices are the same.
     fn is_choice(one: &Self::Choice, other: &Self::Choice) -> bool
@@ -95,23 +90,18 @@ pub trait Subject: FlashTree<Known = Start> {
     ///
     /// # Errors
     ///
-    /// `Memory` where the flash was refused memory.
-    fn follow<F: Flash>(
-        walk: &mut Walk<F, Self>,
-        key: &Self::Key,
-        start: &Start,
-    ) -> Result<bool, FlashError>
+    /// Where the flash was refused memory.
+    fn follow<F: Flash>(walk: &mut Walk<F, Self>, key: &Self::Key) -> Result<bool, AllocError>
         requires stands { walk.old.stands ≡ true }
         requires root { walk.old.path ≡ [] }
-        requires valid { IsLayout (begins walk.old.flash_tree (origin_of walk.old.seen)).geometry }
+        requires valid { IsLayout (begins walk.old.flash_tree).geometry }
         ensures follows { IfOk result (λ went. FollowsKey subject Self.model begins choice key_of
             walk.old key.now went walk.new) }
         ensures no_allocation_failed { OnOk result (NoAllocationFailed walk.old.seen
             walk.new.seen) }
         ensures cheap { IfOk result (λ went. went ≡ true → walk.old.seen.usage.applied
             ≤ (Self.model walk.old.flash_tree).all.entries → IsCheapFor subject begins walk.old
-            walk.new.seen.usage.applied) }
-        ensures err { IfErr result (λ e. e ≡ FlashError.Memory) };
+            walk.new.seen.usage.applied) };
 
     /// The row of the path at whose end a walk stands.
     fn row<F: Flash>(walk: &Walk<F, Self>, path: &Schedule) -> Self::Row
@@ -119,8 +109,8 @@ pub trait Subject: FlashTree<Known = Start> {
         requires path { path.now ≡ walk.now.path }
         requires listed { IsPath (Self.model walk.now.flash_tree) walk.now walk.now.path }
         ensures key { subject.key (shown result) ≡ key_of walk.now.flash_tree
-            (origin_of walk.now.seen) walk.now.path }
-        ensures outcome { subject.HasOutcome (begins walk.now.flash_tree (origin_of walk.now.seen))
+            walk.now.path }
+        ensures outcome { subject.HasOutcome (begins walk.now.flash_tree)
             (choice walk.now.flash_tree) (shown result) };
 
     /// Nothing yet, with room for what is kept of an exploration of at most so many cuts.
@@ -128,8 +118,8 @@ pub trait Subject: FlashTree<Known = Start> {
     /// # Errors
     ///
     /// Where an allocation failed.
-    fn kept(alloc: Global, start: &Start, bound: u8) -> Result<Self::Kept, AllocError>
-        ensures { IfOk result (λ kept. (b : Self) (c : Content) → holds b c kept) };
+    fn kept(self, alloc: Global, bound: u8) -> Result<Self::Kept, AllocError>
+        ensures { IfOk result (holds self) };
 
     /// Keeps the outcome where a walk came to, and says which rows after that path are found without the flash.
     fn arrive<F: Flash>(
@@ -140,13 +130,13 @@ pub trait Subject: FlashTree<Known = Start> {
         requires stands { walk.now.stands ≡ true }
         requires path { path.now ≡ walk.now.path }
         requires listed { IsPath (Self.model walk.now.flash_tree) walk.now walk.now.path }
-        ensures kept { holds walk.now.flash_tree (origin_of walk.now.seen) kept.old
-            → holds walk.now.flash_tree (origin_of walk.now.seen) kept.new }
+        ensures kept { holds walk.now.flash_tree kept.old → holds walk.now.flash_tree kept.new }
         ensures ahead { IfSome result (AreFresh Self.model holds is_ahead walk.now kept.new
             path.now) };
 
     /// The next row of those, which is there wherever rows are found ahead.
     fn row_ahead(
+        self,
         kept: &Self::Kept,
         path: &Schedule,
         rows: &RowsAhead<Self::Ahead>,
@@ -154,11 +144,10 @@ pub trait Subject: FlashTree<Known = Start> {
         requires short { length path.now < 16 }
         requires some { rows.now.next < rows.now.count }
         requires small { rows.now.count ≤ 2 ^ 31 }
-        ensures { (b : Self) (c : Content) → holds b c kept.now
-            → is_ahead b c kept.now path.now rows.now.ahead rows.now.count
-            → Allowed (Self.model b).tree ((Self.model b).root c)
-            (path.now ++ rows.now.next ∷ [])
-            → IsSomeAnd result (λ row. IsRowAt subject begins choice key_of b c
+        ensures { holds self kept.now
+            → is_ahead self kept.now path.now rows.now.ahead rows.now.count
+            → Allowed (Self.model self).tree (Self.model self).root (path.now ++ rows.now.next ∷ [])
+            → IsSomeAnd result (λ row. IsRowAt subject begins choice key_of self
             (path.now ++ rows.now.next ∷ []) (shown row)) };
 
     /// The key of a row.
@@ -174,7 +163,7 @@ pub trait Subject: FlashTree<Known = Start> {
         ensures { (result ≡ true) ↔ subject.Before (subject.key (shown row.now)) key.now };
 
     /// What the restart theorem says of the rows.
-    fn restarts()
+    fn restarts(self)
         ensures { (start : PowerOn) (c : Self.Choice) (row : Shown)
             → subject.HasOutcome start c row → subject.Restarts start c row };
 
@@ -206,19 +195,30 @@ pub trait Subject: FlashTree<Known = Start> {
         ensures text { line.new ≡ line.old ++ subject.cursor_text cursor.now }
         ensures length { length line.new ≤ length line.old + 303 };
 
-    ghost are_keys: { (b : Self) (c : Content) → AreKeys subject (Self.model b).tree
-        ((Self.model b).root c) (begins b c) (choice b) (key_of b c) };
+    ghost are_keys: { (b : Self) → AreKeys subject (Self.model b).tree (Self.model b).root
+        (begins b) (choice b) (key_of b) };
 
     ghost order: { IsOrder subject.Before };
 
     ghost some_rest: { (state : State Self.Choice Self.Key) → (rows : List Shown)
         × IsRest (rows_of subject) state rows };
 
-    ghost costs: { (b : Self) (c : Content) → (Self.model b).step + (Self.model b).all.entries
-        ≤ subject.most_for_row (begins b c).rules (begins b c).geometry };
+    ghost costs: { (b : Self) → (Self.model b).step + (Self.model b).all.entries
+        ≤ subject.most_for_row (begins b).rules (begins b).geometry };
 
-    ghost few_more: { (1 ≤ MORE) × (MORE ≤ 15) };
+    ghost few_more: { (1 ≤ more) × (more ≤ 15) };
 
-    ghost clear: { (b : Self) (counted : Bool) (c : Content) (bound : ℕ) (f : Seen)
-        → LoadsFor counted (begins b c) (bound + MORE) f → IsClear (Self.model b) bound f };
+    ghost clear: { (b : Self) (counted : Bool) (bound boots : ℕ) (f : Seen) → bound + more ≤ boots
+        → LoadsFor counted (begins b) boots f → IsClear (Self.model b) bound f };
+}
+
+/// A subject whose trees are made of starts.
+pub trait OfStart<'a>: Subject {
+    ghost use Rattle.std.specs.Prelude.{◌≡◌};
+    ghost use Rattle.mc_start.specs.Start.{begun};
+
+    /// The tree from a start, under a choice.
+    fn of(start: &'a Start, chosen: Self::Choice) -> Self
+        ensures begins { Self.begins result ≡ begun start.now }
+        ensures choice { Self.choice result ≡ chosen };
 }

@@ -11,10 +11,11 @@ use crate::labels::Labels;
 use crate::output::write_text;
 use crate::rows::Rows;
 use crate::source::RowSource;
-use crate::subject::{Fields, Subject};
+use crate::subject::{Fields, OfStart, Subject};
 use crate::tree_loading::{check_cursor, load_walk};
 use mc_flash::Flash;
 use mc_start::{Line, Start};
+use mc_walk::Walk;
 use std::alloc::Global;
 use std::io::Write;
 use std::marker::Model;
@@ -49,7 +50,7 @@ impl<'a, F: Flash, X: Subject> Model for TreeExplorer<'a, F, X> {
         × IsDigestOf (begun e.start.now) e.digest };
 }
 
-impl<'a, F: Flash + Drop, X: Subject> TreeExplorer<'a, F, X> {
+impl<'a, F: Flash + Drop, X: OfStart<'a>> TreeExplorer<'a, F, X> {
     /// An explorer at the start, under a choice. It takes its own memory here, and none later but through the flash, which
     /// it loads for so many boots more than there are cuts as the subject says.
     ///
@@ -68,11 +69,11 @@ impl<'a, F: Flash + Drop, X: Subject> TreeExplorer<'a, F, X> {
         // No operation is done yet, and a flash that counts has room for exactly so many boots.
         ensures applied { IfOk result (λ explorer. explorer.usage.applied ≡ 0) }
         ensures exact { IfOk result (λ explorer. F.counted ≡ true → explorer.usage.limits
-            ≡ limits_for start.now.rules.grain start.now.geometry (bound + X.MORE)) }
+            ≡ limits_for start.now.rules.grain start.now.geometry (bound + X.more)) }
         ensures err { IfErr result (λ e. e ≡ ExploreError.Memory) }
     {
-        let walk = load_walk(alloc, start, bound, choice)?;
-        let kept = X::kept(alloc, start, bound)?;
+        let walk: Walk<F, X> = load_walk(alloc, start, bound, choice)?;
+        let kept = walk.flash_tree().kept(alloc, bound)?;
         Ok(TreeExplorer {
             start,
             digest: None,
@@ -101,14 +102,14 @@ impl<'a, F: Flash + Drop, X: Subject> TreeExplorer<'a, F, X> {
         ensures cheap { IfOk result (λ explorer. X.subject.IsCheap start.now.rules
             start.now.geometry bound explorer.usage.applied) }
         ensures exact { IfOk result (λ explorer. F.counted ≡ true → explorer.usage.limits
-            ≡ limits_for start.now.rules.grain start.now.geometry (bound + X.MORE)) }
+            ≡ limits_for start.now.rules.grain start.now.geometry (bound + X.more)) }
     {
-        let mut walk = load_walk(alloc, start, bound, choice)?;
-        walk.begin(start)?;
-        if !X::follow(&mut walk, key, start)? {
+        let mut walk: Walk<F, X> = load_walk(alloc, start, bound, choice)?;
+        walk.begin()?;
+        if !X::follow(&mut walk, key)? {
             return Err(ExploreError::CannotOccur);
         }
-        let kept = X::kept(alloc, start, bound)?;
+        let kept = walk.flash_tree().kept(alloc, bound)?;
         Ok(TreeExplorer {
             start,
             digest: None,
@@ -140,7 +141,7 @@ impl<'a, F: Flash + Drop, X: Subject> TreeExplorer<'a, F, X> {
         ensures cheap { IfOk result (λ explorer. X.subject.IsCheap start.now.rules
             start.now.geometry bound explorer.usage.applied) }
         ensures exact { IfOk result (λ explorer. F.counted ≡ true → explorer.usage.limits
-            ≡ limits_for start.now.rules.grain start.now.geometry (bound + X.MORE)) }
+            ≡ limits_for start.now.rules.grain start.now.geometry (bound + X.more)) }
     {
         let fields = X::fields(cursor);
         check_cursor::<X>(start, bound, choice, &fields)?;
@@ -148,7 +149,9 @@ impl<'a, F: Flash + Drop, X: Subject> TreeExplorer<'a, F, X> {
         explorer.digest = Some(fields.digest);
         Ok(explorer)
     }
+}
 
+impl<'a, F: Flash + Drop, X: Subject> TreeExplorer<'a, F, X> {
     /// Where to go on after the last row. Only here the start is hashed, where no cursor gave its digest.
     pub fn cursor(&self) -> X::Cursor
         ensures { (last : X.Key) → self.now.state.position ≡ After last → result
@@ -190,8 +193,8 @@ impl<'a, F: Flash + Drop, X: Subject> TreeExplorer<'a, F, X> {
         ensures explores { Explores F.counted self.old result self.new }
         ensures err { IfErr result (λ e. (e ≡ ExploreError.Memory) ⊎ (e ≡ ExploreError.Failed)) }
     {
-        X::restarts();
-        let found = self.rows.next(self.start)?;
+        self.rows.flash_tree().restarts();
+        let found = self.rows.next()?;
         let Some(row) = found else {
             return Ok(None);
         };

@@ -6,39 +6,59 @@ ghost use Rattle.mc_explore.specs.inner.Exploring.{IsLoaded};
 ghost use Rattle.mc_explore.specs.Subject.{Names, RefusesCursor};
 
 use crate::error::ExploreError;
-use crate::subject::{Fields, Subject};
-use mc_flash::{Flash, FlashError};
+use crate::subject::{Fields, OfStart, Subject};
+use mc_flash::Flash;
 use mc_start::Start;
 use mc_walk::Walk;
-use std::alloc::Global;
+use std::alloc::{AllocError, Global};
 
-/// Loads the flash of a start for so many boots more than there are cuts, for a walk from there.
+/// Loads the flash of a start for so many boots, for a walk from there along paths of at most so many steps.
 ///
 /// # Errors
 ///
-/// `Memory` where an allocation failed.
-pub fn load_walk<F: Flash, X: Subject>(
+/// Where an allocation failed.
+pub fn load_for<'a, F: Flash, X: OfStart<'a>>(
     alloc: Global,
-    start: &Start,
+    start: &'a Start,
     bound: u8,
     choice: X::Choice,
-) -> Result<Walk<F, X>, FlashError>
-    requires { bound ≤ 17 }
+    boots: u32,
+) -> Result<Walk<F, X>, AllocError>
+    requires { (bound + X.more ≤ boots) × (boots ≤ 32) }
     ensures loaded { IfOk result (IsLoaded X.model X.begins X.choice F.counted (begun start.now)
         choice bound) }
     ensures exact { IfOk result (λ walk. F.counted ≡ true → walk.seen.usage.limits
-        ≡ limits_for start.now.rules.grain start.now.geometry (bound + X.MORE)) }
-    ensures err { IfErr result (λ e. e ≡ FlashError.Memory) }
+        ≡ limits_for start.now.rules.grain start.now.geometry boots) }
 {
     let layout = *start.layout();
     // Reading a field gives the prover that it is a layout.
     let _sector = layout.sector();
     let flash_tree = X::of(start, choice);
-    let boots = u32::from(bound) + X::MORE;
     let grain = start.rules().grain;
     let (primary, secondary) = (start.primary(), start.secondary());
     let flash = F::load(alloc, &layout, grain, primary, secondary, boots)?;
     Walk::start(alloc, flash_tree, usize::from(bound), flash)
+}
+
+/// Loads the flash of a start for so many boots more than there are steps in a path as the subject says, for a walk from there.
+///
+/// # Errors
+///
+/// Where an allocation failed.
+pub fn load_walk<'a, F: Flash, X: OfStart<'a>>(
+    alloc: Global,
+    start: &'a Start,
+    bound: u8,
+    choice: X::Choice,
+) -> Result<Walk<F, X>, AllocError>
+    requires { bound ≤ 17 }
+    ensures loaded { IfOk result (IsLoaded X.model X.begins X.choice F.counted (begun start.now)
+        choice bound) }
+    ensures exact { IfOk result (λ walk. F.counted ≡ true → walk.seen.usage.limits
+        ≡ limits_for start.now.rules.grain start.now.geometry (bound + X.more)) }
+{
+    let boots = u32::from(bound) + X::of(start, choice).more();
+    load_for(alloc, start, bound, choice, boots)
 }
 
 /// Whether a cursor is one of this start, this choice and this bound.

@@ -46,6 +46,13 @@ impl<T: Drop> From<AllocFailed<T>> for FlashError {
     }
 }
 
+/// For calls that are refused nothing but memory.
+impl From<FlashError> for AllocError {
+    fn from(_: FlashError) -> Self {
+        AllocError
+    }
+}
+
 /// A flash, seen as one value: its layout, its content, the contents that were marked, and its usage: counts, and their limits.
 pub trait Flash: Sized + Drop {
     ghost use Rattle.mc_flash.specs.Flash.{bytes_of, size_of, CanTry};

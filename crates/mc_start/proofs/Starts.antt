@@ -1,13 +1,18 @@
 -- The images of a start, the boot before a revert, and the room of a schedule.
 use Rattle.std.proofs.{Common.{ap, arith, sym, ◌∙◌}, lemmas.List.{drop-drop, drop-replicate, drop-set-lt, length-take-le}}
-use Rattle.std.specs.Prelude.{Bool, List, None, Option, Some, [], drop, length, refl, replicate, slice_set, take, ℕ, ◌+◌, ◌-◌, ◌<◌, ◌≡◌, ◌≤◌}
+use Rattle.std.specs.Prelude.{Bool, List, None, Option, Some, [], drop, length, option_map, refl, replicate, slice_set, take, ℕ, ◌+◌, ◌-◌, ◌<◌, ◌≡◌, ◌≤◌}
 use Rattle.mc_boot.specs.{Boot.{HasCome, Progress, left_of}, Outcome.{left_by}, Plan.{identity_of, image_size, plain, power_on, powered}}
-use Rattle.mc_boot.specs.{declared.image.ImageId.{ImageId}, declared.kind.Kind.{Kind}, facts.Run.{come_left}, facts.Sizes.{size_read}}
+use Rattle.mc_boot.specs.{declared.image.ImageId.{ImageId}, declared.image.ImageId.{ImageId}, declared.kind.Kind.{Kind}, facts.Run.{come_left}, facts.Sizes.{size_read}}
 use Rattle.mc_flash.specs.{Flash.{Content}, Geometry.{Geometry}, Usage.{Allows, Loads, Seen, Usage, most_operations, most_saved}, inner.Room.{zeros_after}}
 use Rattle.mc_image.specs.{Image.{Begins, Image, image_in, image_text}, Valid.{Identity, first_fault, id_of, image_fault, ◌<+>◌}}
 use Rattle.mc_image.specs.{declared.error.ImageError.{ImageError}, facts.Valid.{prefix_within}}
-use Rattle.mc_start.specs.{Start.{in_order, named_ids}, facts.Room.{limits_are}}
+use Rattle.mc_start.specs.{Start.{IsKnown, in_order, named_ids}, facts.Room.{limits_are}}
 use Rattle.mc_boot.specs.declared.kind.Kind.TheVariants as kinds
+
+-- What is known of some bytes is known of those that are the same.
+pub known : (bytes same : List ℕ) (o : Option ImageId) → option_map identity_of o ≡ id_of bytes → same ≡ bytes → IsKnown same o
+known bytes same None given is = tt
+known bytes same (Some id) given is = ap id_of is ∙ sym given
 
 -- The size of the valid image that some bytes begin with.
 

@@ -5,13 +5,13 @@ ghost use Rattle.mc_image.specs.Valid.{identity, id_of, image_fault};
 ghost use Rattle.mc_flash.specs.Geometry.{IsLayout};
 ghost use Rattle.mc_flash.specs.Flash.{size_of};
 ghost use Rattle.mc_flash.specs.declared.op.Slot.TheVariants.{Primary, Secondary};
-ghost use Rattle.mc_boot.specs.Plan.{image_size, identity_of};
+ghost use Rattle.mc_boot.specs.Plan.{again, image_size, identity_of};
 ghost use Rattle.mc_boot.specs.Restart.{image_bytes};
 ghost use Rattle.mc_start.specs.Start.{layout_line, IsKnown, Starts, Gives, begun, in_order, of_flash, start_digest};
 
 use crate::slots::start_slots;
 use mc_boot::{ImageId, Kind, KnownImage, image_in, known_id};
-use mc_flash::{Content, FlashError, Layout, Slot};
+use mc_flash::{Content, Flash, FlashError, Layout, Slot};
 use mc_image::{ImageError, ImageView, digest_of_parts};
 use mc_trailer::Rules;
 use std::alloc::{AllocError, Global};
@@ -237,6 +237,30 @@ impl Start {
             content: Content::of(alloc, low, high)?,
             in_primary: image_in(low, &[]),
             in_secondary: image_in(high, &[]),
+            named: None,
+        })
+    }
+
+    /// The start by the same rules from what a flash of its layout contains. An image there that this start is not known to hold is
+    /// hashed.
+    ///
+    /// # Errors
+    ///
+    /// Where an allocation failed.
+    pub fn again<F: Flash>(&self, alloc: Global, flash: &F) -> Result<Start, AllocError>
+        requires { (F.seen flash.now).geometry ≡ self.now.geometry }
+        ensures { IfOk result (λ then. begun then
+            ≡ again (begun self.now) (F.seen flash.now).content) }
+    {
+        let content = Content::read(alloc, flash)?;
+        let known = self.known();
+        Ok(Start {
+            layout: self.layout,
+            rules: self.rules,
+            line: self.line.clone()?,
+            in_primary: image_in(content.bytes(Slot::Primary), &known),
+            in_secondary: image_in(content.bytes(Slot::Secondary), &known),
+            content,
             named: None,
         })
     }

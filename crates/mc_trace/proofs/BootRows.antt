@@ -6,12 +6,12 @@ use Rattle.std.proofs.{Math.Seq.{drop-cons, get_or-append_seam}, lemmas.List.{ge
 use Rattle.std.proofs.lemmas.Option.{get_or_from_slice_get, slice_get-get_or}
 use Rattle.mc_boot.specs.{Boot.{HasCome, Progress}, Outcome.{Report, first_then, happening, ops_of, outcome_of, shown}, Plan.{PowerOn, again, plan}}
 use Rattle.mc_boot.specs.facts.Run.{come_count, come_ops, come_prefix}
-use Rattle.mc_explore.specs.{inner.OneRound.{at_cut}, declared.one_round.OneRound.{OneRound}, facts.Children.{IsAtChild}}
+use Rattle.mc_explore.specs.{inner.LastCuts.{boot_at}, inner.OneRound.{at_cut, begun_of}, declared.one_round.OneRound.{OneRound}, facts.Children.{IsAtChild}}
 use Rattle.mc_flash.specs.{Flash.{Content, apply}, Geometry.{Geometry}, declared.op.Op.{Op}}
 use Rattle.mc_output.specs.{Text.{AppendsPrefix}, facts.Prefixes.{IsOut, out_all, out_begun, out_more, out_prefix}}
 use Rattle.mc_trace.specs.Picture.{Shown, boot_row, boot_rows, group_end, grouped_text, is_erase, row_of, rows_text, up_to_cut}
 use Rattle.mc_trace.specs.{declared.picture_rows.Look.{Look}, declared.picture_rows.Row.{Row}}
-use Rattle.mc_trace.specs.inner.Rows.{IsRowHere, IsRowOf, boot_at, length_to, model_of, row_shown}
+use Rattle.mc_trace.specs.inner.Rows.{IsRowHere, IsRowOf, length_to, model_of, row_shown}
 use Rattle.mc_walk.specs.Walks.{Walked}
 
 -- The first of the operations that happen is the first of all.
@@ -77,6 +77,18 @@ module _ (list : List Op) (cut : Option ℕ) where
       by None lt = refl
       by (Some n) lt = get_or-take (n + 1) list number op (omega (arith, lt, length-take (n + 1) list, min-le_left (n + 1) (length list)))
 
+-- They are those of the boot from the node where a walk from a start stands.
+module _ (start : PowerOn) (w : Walked OneRound) (start_is : begun_of w ≡ start) (cut : Option ℕ) (inside : IfSome cut (λ n. n < length (ops_of (boot_at start w.path)))) (to : ℕ)
+    (to_is : to ≡ length_to cut (length (ops_of (boot_at start w.path)))) where
+  pub one_there : (number : ℕ) → number < to → number < length (ops_of (boot_at (begun_of w) w.path))
+  one_there number lt = rw start_is (omega (arith, lt, to_is, within (ops_of (boot_at start w.path)) cut inside))
+
+  pub one_shown : (number : ℕ) → number < to → number < length (up_to_cut cut (ops_of (boot_at start w.path)))
+  one_shown number lt = omega (arith, lt, to_is, long (ops_of (boot_at start w.path)) cut inside)
+
+  pub all_shown : (number : ℕ) → to ≤ number → length (up_to_cut cut (ops_of (boot_at start w.path))) ≤ number
+  all_shown number end = omega (arith, end, to_is, long (ops_of (boot_at start w.path)) cut inside)
+
 module _ (look : Look) (start : Content) (x : PowerOn) (cut : Option ℕ) where
   abbrev list : List Op
   list = up_to_cut cut (ops_of x)
@@ -105,12 +117,18 @@ module _ (look : Look) (start : Content) (x : PowerOn) (cut : Option ℕ) where
         shown_is : row_shown row s ≡ row_of x cut number row.op (shown row.outcome)
         shown_is = let content : s ≡ at_cut x number = is.content_is ∙ ap (at_cut x) here in rw (is.cut_is, content, here) refl
 
-    module _ (before mid new : Option (List ℕ)) (out : IsOut before mid whole (left inside number)) where
-      pub row_out : Appends mid new (grouped_text look x.geometry start inside (row_shown row s)) → IsOut before new whole (left (inside || is_erase row.op) (number + 1))
-      row_out p = out_more before mid new whole _ _ (subst (IsOut before mid whole) next_row out) p
+    module _ (g : Geometry) (layout_is : x.geometry ≡ g) (before mid new : Option (List ℕ)) (out : IsOut before mid whole (left inside number)) where
+      abbrev text : List ℕ
+      text = grouped_text look g start inside (row_shown row s)
 
-      pub row_begun : AppendsPrefix mid new (grouped_text look x.geometry start inside (row_shown row s)) → AppendsPrefix before new whole
-      row_begun p = out_prefix before mid new whole _ _ (subst (IsOut before mid whole) next_row out) p
+      out_here : IsOut before mid whole (text ++ left (inside || is_erase row.op) (number + 1))
+      out_here = rw (sym layout_is, sym next_row) out
+
+      pub row_out : Appends mid new text → IsOut before new whole (left (inside || is_erase row.op) (number + 1))
+      row_out p = out_more before mid new whole _ _ out_here p
+
+      pub row_begun : AppendsPrefix mid new text → AppendsPrefix before new whole
+      row_begun p = out_prefix before mid new whole _ _ out_here p
 
   -- The end.
   module _ (inside : Bool) (number : ℕ) (before mid new : Option (List ℕ)) (out : IsOut before mid whole (left inside number)) (end : length list ≤ number) where
@@ -124,12 +142,13 @@ module _ (look : Look) (start : Content) (x : PowerOn) (cut : Option ℕ) where
     end_begun p = out_prefix before mid new whole (group_end inside) [] (subst (IsOut before mid whole) last out) p
 
 -- The row of the child at which a walk stands is that of the boot of the node where it stood.
-module _ (old at : Walked OneRound) (number : ℕ) (here : IsAtChild model_of old number at) (cut : Option ℕ) (row : Row) (is : IsRowHere at cut row) where
+module _ (start : PowerOn) (old at : Walked OneRound) (start_is : begun_of old ≡ start) (number : ℕ) (here : IsAtChild model_of old number at) (cut : Option ℕ) (row : Row)
+    (is : IsRowHere at cut row) where
   same : (is.0 ≡ old.path) × (row.number ≡ number)
   same = same_from_push is.0 old.path row.number number (sym is.1 ∙ here.path)
 
   pub number_is : row.number ≡ number
   number_is = same.1
 
-  pub row_is : IsRowOf (boot_at old old.path) cut at.seen.content row
+  pub row_is : IsRowOf (boot_at start old.path) cut at.seen.content row
   row_is = grind (arith, same)

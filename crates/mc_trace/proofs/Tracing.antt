@@ -3,8 +3,8 @@ use Rattle.std.specs.Prelude.{◌≡◌, ℕ, suc, ◌+◌, ◌*◌, ◌<◌, �
 use Rattle.std.specs.Io.KnownBytes.{Appends}
 use Rattle.std.proofs.{Common.{arith, inl, inr, sym, ap, subst, get_or, drop-cons, drop_of_length-le, append-nil, ◌∙◌}, Math.Nat.{mul-le-mul_right}}
 use Rattle.std.proofs.lemmas.Bool.Decides.{nat_tests}
-use Rattle.mc_flash.specs.{Flash.{Content}, Geometry.{Geometry}}
-use Rattle.mc_flash.specs.Usage.{Seen, LeaveRoom, plus, room_of, times, Counts, IsWithin, Limits, limits_for, most_operations, most_saved, no_counts}
+use Rattle.mc_flash.specs.{Flash.{Content}}
+use Rattle.mc_flash.specs.Usage.{Allows, Seen, LeaveRoom, plus, times, Counts, IsWithin, limits_for, most_operations, most_saved, no_counts}
 use Rattle.mc_trailer.specs.declared.tables.Rules.{Rules}
 use Rattle.mc_start.specs.facts.Room.{limits_are}
 use Rattle.mc_explore.specs.inner.OneRound.{most_of, at_cut, content_or}
@@ -127,20 +127,22 @@ no_refusal start cuts old new errors.Write is = tt
 -- ---- the room of the flash
 
 -- After so many boots there is room for one more, among those for which the flash was loaded.
-module _ (r rules : Rules) (g layout : Geometry) (same_rules : rules ≡ r) (same_layout : layout ≡ g) (n : ℕ) (old : Counts) (counts : LeaveRoom old no_counts (times n (most_of r g))) where
-  most_here : most_of rules layout ≡ most_of r g
-  most_here = ap (λ (x : Rules). most_of x layout) same_rules ∙ ap (most_of r) same_layout
+module _ (start : PowerOn) (rules : Rules) (f : Seen) (same_rules : rules ≡ start.rules) (same_layout : f.geometry ≡ start.geometry) (n : ℕ)
+    (counts : LeaveRoom f.usage.counts no_counts (times n (most_of start))) where
+  most_here : most_of (powered rules f) ≡ most_of start
+  most_here = rw (same_rules, same_layout) refl
 
-  pub one_counted : (new : Counts) → LeaveRoom new no_counts (plus old (most_of rules layout)) → LeaveRoom new no_counts (times (n + 1) (most_of r g))
+  pub one_counted : (new : Counts) → LeaveRoom new no_counts (plus f.usage.counts (most_of (powered rules f))) → LeaveRoom new no_counts (times (n + 1) (most_of start))
   one_counted new more = grind arith
 
-  pub room_left : (boots : ℕ) (limits : Limits) → n + 1 ≤ boots → IsWithin (limits_for r.grain g boots) limits → LeaveRoom old (most_of rules layout) (room_of limits)
-  room_left boots limits at_most within =
-      let l = limits_are r.grain g boots limits within in
-      let most = most_operations r.grain g in
+  pub room_left : (boots : ℕ) → n + 1 ≤ boots → IsWithin (limits_for start.rules.grain start.geometry boots) f.usage.limits → Allows (most_of (powered rules f)) f
+  room_left boots at_most within =
+      let l = limits_are start.rules.grain start.geometry boots f.usage.limits within in
+      let most = most_operations start.rules.grain start.geometry in
+      let kept = most_saved start.geometry in
       let entries : n * most + most ≤ boots * most = rw (← more most) (mul-le-mul_right most at_most) in
-      let saved : n * most_saved g + most_saved g ≤ boots * most_saved g = rw (← more (most_saved g)) (mul-le-mul_right (most_saved g) at_most) in
-      subst (λ (c : Counts). LeaveRoom old c (room_of limits)) (sym most_here) (record {
+      let saved : n * kept + kept ≤ boots * kept = rw (← more kept) (mul-le-mul_right kept at_most) in
+      subst (λ (c : Counts). Allows c f) (sym most_here) (record {
         entries = omega (arith, counts.entries, entries, l.for_entries);
         saved = omega (arith, counts.saved, saved, l.for_saved);
       })

@@ -2,8 +2,11 @@
 ghost use Rattle.std.specs.Prelude.{◌≡◌, ◌≢◌, ◌<◌, ◌⊎◌, [], false, true, IfErr, IfSome, IsErrOf, OnOk, length};
 ghost use Rattle.mc_boot.specs.Outcome.{ops_of};
 ghost use Rattle.mc_explore.specs.facts.Children.{IsAtChild};
+ghost use Rattle.mc_explore.specs.inner.LastCuts.{boot_at};
+ghost use Rattle.mc_explore.specs.inner.OneRound.{begun_of};
+ghost use Rattle.mc_start.specs.Start.{begun};
 ghost use Rattle.mc_trace.specs.inner.Boots.{WritesText};
-ghost use Rattle.mc_trace.specs.inner.Rows.{IsReady, IsRowHere, boot_at, length_to, model_of, row_shown};
+ghost use Rattle.mc_trace.specs.inner.Rows.{IsReady, IsRowHere, length_to, model_of, row_shown};
 ghost use Rattle.mc_trace.specs.Picture.{after_row, before_row, boot_rows, group_begin, group_end, grouped_text, is_erase};
 
 use crate::error::TraceError;
@@ -16,11 +19,11 @@ use mc_walk::{FlashTree, Walk};
 use std::io::Write;
 
 // The row of the child at which a walk stands.
-fn row_here<F: Flash>(walk: &Walk<F, OneRound>, cut: Option<u32>) -> Row
+fn row_here<F: Flash>(walk: &Walk<F, OneRound<'_>>, cut: Option<u32>) -> Row
     requires stands { walk.now.stands ≡ true }
     requires below { walk.now.path ≢ [] }
     ensures row { IsRowHere walk.now cut result }
-    ensures layout { walk.now.seen.geometry ≡ walk.now.flash_tree.layout }
+    ensures layout { walk.now.seen.geometry ≡ (begun_of walk.now).geometry }
 {
     let Some(step) = walk.last_step() else {
         unreachable!();
@@ -125,16 +128,16 @@ fn rows_to(cut: Option<u32>, count: u32) -> u32
 ///
 /// `Memory` where the flash was refused memory, which one that counts never is; `Write`. A beginning of the rows is out.
 pub fn write_boot_rows<F: Flash, W: Write>(
-    walk: &mut Walk<F, OneRound>,
+    walk: &mut Walk<F, OneRound<'_>>,
     cut: Option<u32>,
     start: &Start,
     look: &Look,
     writer: &mut W,
 ) -> Result<(), TraceError>
-    requires ready { IsReady start.now.geometry 1 walk.old }
-    requires inside { IfSome cut (λ n. n < length (ops_of (boot_at walk.old walk.old.path))) }
+    requires ready { IsReady (begun start.now) 1 walk.old }
+    requires inside { IfSome cut (λ n. n < length (ops_of (boot_at (begun start.now) walk.old.path))) }
     ensures written { WritesText result (W.contents writer.old) (W.contents writer.new)
-        (boot_rows look.now start.now.content (boot_at walk.old walk.old.path) cut) }
+        (boot_rows look.now start.now.content (boot_at (begun start.now) walk.old.path) cut) }
     ensures goes { OnOk result (IfSome cut (λ n. IsAtChild model_of walk.old n
         walk.new)) }
     ensures cause { IsErrOf result TraceError.Memory → walk.old.seen.usage.limits.counted ≡ false }
@@ -144,7 +147,7 @@ pub fn write_boot_rows<F: Flash, W: Write>(
     let to = rows_to(cut, count);
     let mut inside = false;
     for number in 0..to {
-        go_to_child(walk, number, start)?;
+        go_to_child(walk, number)?;
         let row = row_here(walk, cut);
         write_grouped(walk.flash(), start, look, inside, &row, writer)?;
         inside |= is_erase(row.op);

@@ -115,7 +115,7 @@ pub fn write_cut_boot<F: Flash, W: Write>(
     writer: &mut W,
 ) -> Result<(), TraceError>
     requires inside { cut < length (ops_of (powered rules (F.seen flash.old))) }
-    requires room { let f = F.seen flash.old in Allows (most_of rules f.geometry) f }
+    requires room { let f = F.seen flash.old in Allows (most_of (powered rules f)) f }
     ensures whole { let f = F.seen flash.old in OnOk result
         (Appends (W.contents writer.old) (W.contents writer.new)
         (cut_text span rules f.geometry boot f.content cut)) }
@@ -126,7 +126,7 @@ pub fn write_cut_boot<F: Flash, W: Write>(
         ((F.seen flash.new).content ≡ at_cut x cut) }
     ensures layout { (F.seen flash.new).geometry ≡ (F.seen flash.old).geometry }
     ensures counts { let f = F.seen flash.old in
-        CountsUpTo (most_of rules f.geometry) f result (F.seen flash.new) }
+        CountsUpTo (most_of (powered rules f)) f result (F.seen flash.new) }
     ensures err { IfErr result (λ e. (e ≡ TraceError.Memory) ⊎ (e ≡ TraceError.Write)) }
 {
     let layout = *flash.layout();
@@ -156,7 +156,7 @@ pub fn write_last_boot<F: Flash, W: Write>(
     span: Span,
     writer: &mut W,
 ) -> Result<(), TraceError>
-    requires { let f = F.seen flash.old in Allows (most_of rules f.geometry) f }
+    requires { let f = F.seen flash.old in Allows (most_of (powered rules f)) f }
     ensures whole { let f = F.seen flash.old in OnOk result
         (Appends (W.contents writer.old) (W.contents writer.new)
         (last_text span rules f.geometry boot f.content)) }
@@ -164,7 +164,7 @@ pub fn write_last_boot<F: Flash, W: Write>(
         (AppendsPrefix (W.contents writer.old) (W.contents writer.new)
         (last_text span rules f.geometry boot f.content)) }
     ensures counts { let f = F.seen flash.old in
-        CountsUpTo (most_of rules f.geometry) f result (F.seen flash.new) }
+        CountsUpTo (most_of (powered rules f)) f result (F.seen flash.new) }
     ensures err { IfErr result (λ e. (e ≡ TraceError.Memory) ⊎ (e ≡ TraceError.Write)) }
 {
     let mut machine = Boot::cold(flash, rules);

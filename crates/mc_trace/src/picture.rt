@@ -1,9 +1,9 @@
 //! A picture of a schedule: one page that a browser shows.
-ghost use Rattle.std.specs.Prelude.{◌≡◌, ◌+◌, ◌⊎◌, false, true, length, IfErr, IfOk, IsErrOf, OnErr, OnOk};
+ghost use Rattle.std.specs.Prelude.{◌≡◌, ◌+◌, ◌⊎◌, [], false, true, length, IfErr, IfOk, IsErrOf, OnErr, OnOk};
 ghost use Rattle.mc_explore.specs.Schedules.{CanOccur};
 ghost use Rattle.mc_start.specs.Start.{begun};
 ghost use Rattle.mc_trace.specs.inner.Boots.{WritesText};
-ghost use Rattle.mc_trace.specs.inner.Rows.{IsReady, boot_at};
+ghost use Rattle.mc_trace.specs.inner.Rows.{IsReady};
 ghost use Rattle.mc_trace.specs.Trace.{RefusesTrace};
 ghost use Rattle.mc_trace.specs.Picture.{BeginsPicture, Draws, IsVerdict, intro_text, look_for, opening_text, page_text};
 
@@ -37,11 +37,11 @@ fn verdict_of<F: Flash>(
     ensures verdict { IfOk result (IsVerdict expectation.now (begun start.now)) }
     ensures err { IfErr result (λ e. e ≡ TraceError.Memory) }
 {
-    let rights = match take_rights::<F, OneRound>(alloc, start, 16, (), expectation) {
+    let rights = match take_rights::<F, OneRound<'_>>(alloc, start, 16, (), expectation) {
         Ok(rights) => rights,
         Err(_) => return Err(TraceError::Memory),
     };
-    match take_census::<F, OneRound>(alloc, start, 16, ()) {
+    match take_census::<F, OneRound<'_>>(alloc, start, 16, ()) {
         Ok(census) => Ok(Verdict { census, rights }),
         Err(_) => Err(TraceError::Memory),
     }
@@ -70,7 +70,7 @@ fn intro_line(schedule: &Schedule, rights: &Rights) -> Line
     schedule.put_into(&mut line);
     line.put("</h1>\n");
     line.put(pre_begin(rights.first_not_right.is_none()));
-    line.put(rights_line::<OneRound>(rights).as_str());
+    line.put(rights_line::<OneRound<'_>>(rights).as_str());
     line
 }
 
@@ -86,22 +86,22 @@ fn write_opening<W: Write>(
 {
     write_text(writer, HEAD.as_bytes())?;
     write_line(writer, &intro_line(schedule, &verdict.rights))?;
-    write_line(writer, &census_line::<OneRound>(&verdict.census))?;
+    write_line(writer, &census_line::<OneRound<'_>>(&verdict.census))?;
     write_text(writer, LEGEND.as_bytes())?;
     Ok(())
 }
 
 // Writes the page by a walk that is at its root.
 fn write_page<F: Flash, W: Write>(
-    walk: &mut Walk<F, OneRound>,
+    walk: &mut Walk<F, OneRound<'_>>,
     verdict: &Verdict,
     start: &Start,
     schedule: &Schedule,
     look: &Look,
     writer: &mut W,
 ) -> Result<(), TraceError>
-    requires ready { IsReady start.now.geometry (length schedule.now + 1) walk.old }
-    requires begun { boot_at walk.old walk.old.path ≡ begun start.now }
+    requires ready { IsReady (begun start.now) (length schedule.now + 1) walk.old }
+    requires root { walk.old.path ≡ [] }
     requires occurs { CanOccur (begun start.now) schedule.now }
     ensures written { WritesText result (W.contents writer.old) (W.contents writer.new)
         (page_text look.now (begun start.now) schedule.now verdict.now) }
@@ -143,7 +143,7 @@ pub fn write_picture<F: Flash + Drop, W: Write>(
     let verdict = verdict_of::<F>(alloc, start, expectation)?;
     let look = look_for(start.layout(), expectation);
     let boots = schedule.cuts().len() as u8 + 1;
-    let mut walk: Walk<F, OneRound> = load_walk(alloc, start, boots, ())?;
-    walk.begin(start)?;
+    let mut walk: Walk<F, OneRound<'_>> = load_walk(alloc, start, boots, ())?;
+    walk.begin()?;
     write_page(&mut walk, &verdict, start, schedule, &look, writer)
 }

@@ -3,8 +3,10 @@ ghost use Rattle.std.specs.Prelude.{◌≡◌, ◌+◌, ◌<◌, ◌≤◌, ◌�
 ghost use Rattle.mc_boot.specs.Outcome.{ops_of, shown};
 ghost use Rattle.mc_explore.specs.Schedules.{CanOccur};
 ghost use Rattle.mc_explore.specs.facts.Children.{IsAtChild};
+ghost use Rattle.mc_explore.specs.inner.LastCuts.{boot_at};
+ghost use Rattle.mc_start.specs.Start.{begun};
 ghost use Rattle.mc_trace.specs.inner.Boots.{WritesText};
-ghost use Rattle.mc_trace.specs.inner.Rows.{IsReady, boot_at, model_of};
+ghost use Rattle.mc_trace.specs.inner.Rows.{IsReady, model_of};
 ghost use Rattle.mc_trace.specs.Picture.{boot_section, end_text, heading_text, pre_begin, sections_text};
 
 use crate::boot_rows::write_boot_rows;
@@ -58,17 +60,17 @@ fn end_line(look: &Look, outcome: &Outcome) -> Line
 
 // Writes the section of the boot from the node at which a walk stands, up to a cut, and goes to the child at that cut.
 fn write_section<F: Flash, W: Write>(
-    walk: &mut Walk<F, OneRound>,
+    walk: &mut Walk<F, OneRound<'_>>,
     boot: u32,
     cut: Option<u32>,
     start: &Start,
     look: &Look,
     writer: &mut W,
 ) -> Result<(), TraceError>
-    requires ready { IsReady start.now.geometry 1 walk.old }
-    requires inside { IfSome cut (λ n. n < length (ops_of (boot_at walk.old walk.old.path))) }
+    requires ready { IsReady (begun start.now) 1 walk.old }
+    requires inside { IfSome cut (λ n. n < length (ops_of (boot_at (begun start.now) walk.old.path))) }
     ensures written { WritesText result (W.contents writer.old) (W.contents writer.new)
-        (boot_section look.now start.now.content boot (boot_at walk.old walk.old.path) cut) }
+        (boot_section look.now start.now.content boot (boot_at (begun start.now) walk.old.path) cut) }
     ensures goes { OnOk result (IfSome cut (λ n. IsAtChild model_of walk.old n
         walk.new)) }
     ensures cause { IsErrOf result TraceError.Memory → walk.old.seen.usage.limits.counted ≡ false }
@@ -87,18 +89,18 @@ fn write_section<F: Flash, W: Write>(
 ///
 /// `Memory` where the flash was refused memory, which one that counts never is; `Write`. A beginning of them is out.
 pub fn write_sections<F: Flash, W: Write>(
-    walk: &mut Walk<F, OneRound>,
+    walk: &mut Walk<F, OneRound<'_>>,
     boot: u32,
     cuts: &[u32],
     start: &Start,
     look: &Look,
     writer: &mut W,
 ) -> Result<(), TraceError>
-    requires ready { IsReady start.now.geometry (length cuts.now + 1) walk.old }
-    requires occurs { CanOccur (boot_at walk.old walk.old.path) cuts.now }
+    requires ready { IsReady (begun start.now) (length cuts.now + 1) walk.old }
+    requires occurs { CanOccur (boot_at (begun start.now) walk.old.path) cuts.now }
     requires few { boot + length cuts.now ≤ 16 }
     ensures written { WritesText result (W.contents writer.old) (W.contents writer.new)
-        (sections_text look.now start.now.content boot (boot_at walk.old walk.old.path)
+        (sections_text look.now start.now.content boot (boot_at (begun start.now) walk.old.path)
         cuts.now) }
     ensures cause { IsErrOf result TraceError.Memory → walk.old.seen.usage.limits.counted ≡ false }
     ensures err { IfErr result (λ e. (e ≡ TraceError.Memory) ⊎ (e ≡ TraceError.Write)) }

@@ -7,19 +7,19 @@ use Rattle.mc_explore.specs.{facts.Children.{IsAtChild, child_here, listed_there
 use Rattle.mc_explore.specs.inner.OneRound.{GoesOnIn, begins, begun_of, boots, one_round}
 use Rattle.mc_flash.specs.{Flash.{Content}, Usage.{Seen}}
 use Rattle.mc_tree.specs.{Tree.{Allowed, IsMember, landed}, facts.Order.{allowed_prefix}}
-use Rattle.mc_walk.specs.{TreeModel.{IsChildOf, TreeModel}, Walks.{Begins, Follows, IsLastStep, IsPath, IsSame, IsThere, Walked, origin_of}}
+use Rattle.mc_walk.specs.{TreeModel.{IsChildOf, TreeModel}, Walks.{Begins, Follows, IsLastStep, IsPath, IsSame, IsThere, Walked}}
 use Rattle.mc_walk.specs.declared.frame.Frame.{Frame}
 use Rattle.mc_vectors.specs.inner.Searching.{GoesOnAt, IsAt}
-use Rattle.mc_vectors.proofs.Visited.{lands}
+use Rattle.mc_vectors.proofs.Covered.{lands}
 
-abbrev pub model_of : OneRound → TreeModel Content Boot Summary
-model_of t = one_round t.rules t.layout
+abbrev pub model_of : OneRound → TreeModel PowerOn Boot Summary
+model_of t = one_round (begins t)
 
 same_begun : (old new : Walked OneRound) → IsSame old new → begun_of new ≡ begun_of old
-same_begun old new s = cc (s.flash_tree, s.origin)
+same_begun old new s = ap begins s.flash_tree
 
 -- The paths of a walk are those of the start.
-is_path : (x : PowerOn) (w : Walked OneRound) (bound : ℕ) (l : List ℕ) → begun_of w ≡ x → w.bound ≡ bound → IsMember (boots x.rules x.geometry) x.content bound l → IsPath (model_of w.flash_tree) w l
+is_path : (x : PowerOn) (w : Walked OneRound) (bound : ℕ) (l : List ℕ) → begun_of w ≡ x → w.bound ≡ bound → IsMember boots x bound l → IsPath (model_of w.flash_tree) w l
 is_path x w bound l is few m = grind arith
 
 module _ (x : PowerOn) (schedule cuts : List ℕ) (fresh one two : Walked OneRound) (summary : Summary) (start_is : begun_of fresh ≡ x) (bound_is : fresh.bound ≡ length cuts + 1)
@@ -35,7 +35,7 @@ module _ (x : PowerOn) (schedule cuts : List ℕ) (fresh one two : Walked OneRou
 
   member : (n : ℕ) → IsPath (model_of one.flash_tree) one (one.path ++ take n cuts)
   member n =
-      let allowed = allowed_prefix (boots x.rules x.geometry) x.content cuts n (subst (λ l. Allowed (boots x.rules x.geometry) x.content l) (sym cuts_are) (occurs_allowed x schedule occurs)) in
+      let allowed = allowed_prefix boots x cuts n (subst (Allowed boots x) (sym cuts_are) (occurs_allowed x schedule occurs)) in
       let short : length (take n cuts) ≤ length cuts + 1 = omega (arith, length-take n cuts, min-le_right n (length cuts)) in
       subst (IsPath (model_of one.flash_tree) one) (sym (from_root (take n cuts))) (is_path x one (length cuts + 1) (take n cuts) one_start one_bound (short, allowed))
 
@@ -58,8 +58,7 @@ module _ (x : PowerOn) (schedule cuts : List ℕ) (fresh one two : Walked OneRou
 
 -- A walk at a child of the node of a schedule.
 pub at_child : (x : PowerOn) (path : List ℕ) (w at : Walked OneRound) (number : ℕ) → IsAt x path w
-    → number < (boots w.flash_tree.rules w.flash_tree.layout).width (landed (boots w.flash_tree.rules w.flash_tree.layout) (origin_of w.seen) w.path)
-    → length w.path < w.bound → IsAtChild model_of w number at → IsAt x at.path at
+    → number < boots.width (landed boots (begun_of w) w.path) → length w.path < w.bound → IsAtChild model_of w number at → IsAt x at.path at
 at_child x path w at number here some deep child = record {
   stands = child.stands;
   path_is = refl;
@@ -70,23 +69,23 @@ at_child x path w at number here some deep child = record {
 
 -- Its boot goes on with the one that was cut, where that is known.
 module _ (w : Walked OneRound) (f : Frame Boot Summary) (step : IsLastStep (model_of w.flash_tree) w f) (summary : Summary) (there : IsThere (model_of w.flash_tree) w summary) where
-  goes_by : (tail : SharedTail) → ((s : Content) (i : ℕ) → IsChildOf (model_of w.flash_tree) s i f.at f.parent summary w.seen → GoesOnIn (begins w.flash_tree s) i tail) → GoesOnAt (begun_of w) w
+  goes_by : (tail : SharedTail) → ((y : PowerOn) (i : ℕ) → IsChildOf (model_of w.flash_tree) y i f.at f.parent summary w.seen → GoesOnIn y i tail) → GoesOnAt (begun_of w) w
   goes_by tail goes = (
     step.before,
     f.number,
     tail,
     step.path_is,
-    λ s at. subst (λ (n : Content). GoesOnIn (again (begun_of w) n) f.number tail) (sym (lands (begun_of w) step.before s at))
-        (goes (landed (boots w.flash_tree.rules w.flash_tree.layout) (origin_of w.seen) step.before) f.number (child_here (model_of w.flash_tree) w f summary there step)),
+    λ s at. subst (λ (y : PowerOn). GoesOnIn y f.number tail) (lands (begun_of w) step.before s at)
+        (goes (landed boots (begun_of w) step.before) f.number (child_here (model_of w.flash_tree) w f summary there step)),
   )
 
   pub goes_on : (flash_tree : OneRound) (seen : Seen) → flash_tree ≡ w.flash_tree → seen ≡ w.seen → (found : Option SharedTail)
-      → IfSome found (λ tail. (s : Content) (i : ℕ) → IsChildOf (model_of flash_tree) s i f.at f.parent summary seen → GoesOnIn (begins flash_tree s) i tail)
+      → IfSome found (λ tail. (y : PowerOn) (i : ℕ) → IsChildOf (model_of flash_tree) y i f.at f.parent summary seen → GoesOnIn y i tail)
       → is_some found ≡ true → GoesOnAt (begun_of w) w
   goes_on flash_tree seen same here None goes some = absurd cc
   goes_on flash_tree seen same here (Some tail) goes some = goes_by tail (rw (sym same, sym here) goes)
 
 -- As many children as the boot from there makes operations.
 pub width_at : (x : PowerOn) (path : List ℕ) (w : Walked OneRound) → IsAt x path w → (u : Content) → after x path ≡ Some u
-    → (boots w.flash_tree.rules w.flash_tree.layout).width (landed (boots w.flash_tree.rules w.flash_tree.layout) (origin_of w.seen) w.path) ≡ length (ops_of (again x u))
+    → boots.width (landed boots (begun_of w) w.path) ≡ length (ops_of (again x u))
 width_at x path w at u is = grind (arith, lands)

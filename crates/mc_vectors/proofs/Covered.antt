@@ -3,16 +3,20 @@ use Rattle.std.specs.Prelude.{All, Contains, Some, is_some, false, true, Bool}
 use Rattle.std.proofs.Common.{List, [], append-nil, ap, arith, inl, inr, length, length-append, refl, subst, sym, ℕ, ◌++◌, ◌+◌, ◌<◌, ◌∙◌, ◌∷◌, ◌≡◌, ◌≤◌, ◌⊎◌, append_assoc}
 use Rattle.std.proofs.{lemmas.List.{take_all}, lemmas.List.Elements.{All-contains}}
 use Rattle.mc_boot.specs.{Outcome.{after, ops_of}, Plan.{PowerOn, again}}
-use Rattle.mc_explore.specs.{facts.Occurring.{allowed_after, occurs_allowed}, inner.OneRound.{at_cut, boots}}
+use Rattle.mc_explore.specs.{facts.Occurring.{allowed_after, landed_again, occurs_allowed}, inner.OneRound.{at_cut, boots}}
 use Rattle.mc_flash.specs.Flash.{Content}
 use Rattle.mc_tree.specs.{Tree.{Allowed, landed}, facts.Order.{allowed-push, landed-push}}
 use Rattle.mc_vectors.specs.{Cases.{AnyCuts, AreCases, AtMost, ComesBefore, HasNoCollision, IsNoLater}, declared.case.Case.{Case}}
 use Rattle.mc_vectors.specs.inner.Searching.{IsDone, IsSearch}
 use Rattle.mc_vectors.proofs.Orders.{no_later_on, no_later_trans, no_longer}
 
+-- A schedule lands where the tree says.
+pub lands : (x : PowerOn) (l : List ℕ) (u : Content) → after x l ≡ Some u → landed boots x l ≡ again x u
+lands x l u is = cc (landed_again x l, allowed_after x l (occurs_allowed x l (ap is_some is)))
+
 -- The flash at one cut more.
 pub after_push : (x : PowerOn) (l : List ℕ) (u : Content) (i : ℕ) → after x l ≡ Some u → i < length (ops_of (again x u)) → after x (l ++ i ∷ []) ≡ Some (at_cut (again x u) i)
-after_push x l u i is some = grind (arith, occurs_allowed, allowed_after, allowed-push, landed-push)
+after_push x l u i is some = grind (arith, lands, occurs_allowed, allowed_after, allowed-push, landed-push)
 
 module _ (x : PowerOn) (bound : ℕ) (cases : List Case) (index : ℕ) (s : IsSearch x bound cases index) (all : length cases ≤ index) where
   done_all : (c : Case) → Contains cases c → IsDone x cases bound c
@@ -58,8 +62,7 @@ module _ (x : PowerOn) (bound : ℕ) (cases : List Case) (index : ℕ) (s : IsSe
 
     -- So has each flash that cuts leave from the flash of a case.
     reach : (l : List ℕ) (c : Case) → Contains cases c → (length c.schedule + length l ≤ bound) ⊎ IsWhole → (u : Content) → after x c.schedule ≡ Some u
-        → Allowed (boots x.rules x.geometry) u l
-        → (w : Case) × Contains cases w × (after x w.schedule ≡ Some (landed (boots x.rules x.geometry) u l)) × IsNoLater w.schedule (c.schedule ++ l)
+        → Allowed boots (again x u) l → (w : Case) × Contains cases w × (after x w.schedule ≡ Some (landed boots (again x u) l).content) × IsNoLater w.schedule (c.schedule ++ l)
     reach [] c inside few u is allowed = (c, inside, is, inl (sym (append-nil c.schedule)))
     reach (i ∷ l) c inside few u is allowed =
         let v = child c inside (elim few [
@@ -83,7 +86,7 @@ module _ (x : PowerOn) (bound : ℕ) (cases : List Case) (index : ℕ) (s : IsSe
           | inl le ↦ inl (omega (arith, le, ap (λ (k : List ℕ). length k) r.2))
           | inr whole ↦ inr whole
         ]) x.content begins allowed in
-        let same : Some (landed (boots x.rules x.geometry) x.content l) ≡ Some u = sym (allowed_after x l allowed) ∙ is in
+        let same : Some (landed boots x l).content ≡ Some u = sym (allowed_after x l allowed) ∙ is in
         (w.0, w.1, w.2 ∙ same, subst (λ (k : List ℕ). IsNoLater w.0.schedule (k ++ l)) r.2 w.3)
 
   pub are_cases : AreCases x (AtMost bound) cases

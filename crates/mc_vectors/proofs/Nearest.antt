@@ -18,7 +18,7 @@ some_of (Some a) is = (a, refl)
 -- A schedule that can occur is not refused.
 pub not_refused : (x : PowerOn) (l : List ℕ) (index : ℕ) → CanOccur x l → CannotOccurAt x l index → ⊥
 not_refused x l index occurs at =
-    let there = allowed_occurs x (take (index + 1) l) (allowed_prefix (boots x.rules x.geometry) x.content l (index + 1) (occurs_allowed x l occurs)) in
+    let there = allowed_occurs x (take (index + 1) l) (allowed_prefix boots x l (index + 1) (occurs_allowed x l occurs)) in
     cc (there, at.not_there)
 
 same_some : {A : Type 0} (o : Option A) (a b : A) → o ≡ Some a → o ≡ Some b → a ≡ b

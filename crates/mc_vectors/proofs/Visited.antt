@@ -3,31 +3,26 @@ use Rattle.std.specs.Prelude.{Contains, Err, IfOk, Ok, Result, Some, is_some, tr
 use Rattle.std.proofs.{Common.{List, [], ap, arith, length, length-append, subst, sym, ℕ, ◌++◌, ◌+◌, ◌<◌, ◌∙◌, ◌∷◌, ◌≡◌, ◌≢◌}, lemmas.List.{same_from_push}}
 use Rattle.mc_boot.specs.{Outcome.{after, left_by, ops_of, outcome_of, shown}, Plan.{PowerOn, again}, SharedTail.{index_in_parent}}
 use Rattle.mc_explore.specs.{facts.Occurring.{allowed_after, occurs_allowed}, facts.Tails.{placed_at}}
-use Rattle.mc_explore.specs.{inner.OneRound.{GoesOnIn, at_cut, boots, content_or, one_round}, declared.one_round.OneRound.{OneRound}}
+use Rattle.mc_explore.specs.{inner.OneRound.{GoesOnIn, at_cut, begun_of, boots, one_round}, declared.one_round.OneRound.{OneRound}}
 use Rattle.mc_explore.specs.declared.one_round.Summary.{Summary}
 use Rattle.mc_flash.specs.Flash.{Content}
-use Rattle.mc_tree.specs.{Tree.{Tree, landed}, facts.Order.{allowed-last, landed-push}}
+use Rattle.mc_tree.specs.{facts.Order.{allowed-last, landed-push}}
 use Rattle.mc_walk.specs.Walks.{IsThere, Walked}
 use Rattle.mc_vectors.specs.{Cases.{IsCase, flash_digest}, declared.case.Case.{Case}}
 use Rattle.mc_vectors.specs.inner.Searching.{GoesOnAt, IsAt, IsCaseHere, IsExpanding, IsJoined, IsOwnCase}
-use Rattle.mc_vectors.proofs.Extended.{IsNext, fresh, known, p_inside}
-
--- A schedule lands where the tree says.
-pub lands : (x : PowerOn) (l : List ℕ) (u : Content) → after x l ≡ Some u → u ≡ landed (boots x.rules x.geometry) x.content l
-lands x l u is = ap (content_or x.content) (sym is ∙ allowed_after x l (occurs_allowed x l (ap is_some is)))
+use Rattle.mc_vectors.proofs.{Covered.{lands}, Extended.{IsNext, fresh, known, p_inside}}
 
 -- The last cut of a schedule, of the boot from what the others leave.
 pub pushed : (x : PowerOn) (l : List ℕ) (u z : Content) (i : ℕ) → after x l ≡ Some u → after x (l ++ i ∷ []) ≡ Some z → (i < length (ops_of (again x u))) × (z ≡ at_cut (again x u) i)
 pushed x l u z i is one =
-    let t : Tree Content = boots x.rules x.geometry in
     let here = lands x l u is in
-    let some = allowed-last t x.content l i (occurs_allowed x (l ++ i ∷ []) (ap is_some one)) in (
-      subst (λ (s : Content). i < length (ops_of (again x s))) (sym here) some,
-      lands x (l ++ i ∷ []) z one ∙ landed-push t x.content l i ∙ ap (λ (s : Content). at_cut (again x s) i) (sym here),
+    let some = allowed-last boots x l i (occurs_allowed x (l ++ i ∷ []) (ap is_some one)) in (
+      subst (λ (y : PowerOn). i < length (ops_of y)) here some,
+      ap (λ (y : PowerOn). y.content) (sym (lands x (l ++ i ∷ []) z one) ∙ landed-push boots x l i ∙ ap (λ (y : PowerOn). boots.child y i) here),
     )
 
 -- What a walk stands at.
-module _ (x : PowerOn) (path : List ℕ) (w : Walked OneRound) (at : IsAt x path w) (summary : Summary) (there : IsThere (one_round w.flash_tree.rules w.flash_tree.layout) w summary) where
+module _ (x : PowerOn) (path : List ℕ) (w : Walked OneRound) (at : IsAt x path w) (summary : Summary) (there : IsThere (one_round (begun_of w)) w summary) where
   pub stands_at : after x w.path ≡ Some w.seen.content
   stands_at = grind (arith, allowed_after)
 
@@ -75,7 +70,7 @@ module _ (x : PowerOn) (bound : ℕ) (cases : List Case) (index number : ℕ) (p
           let few = subst (λ (v : Content). i < length (ops_of (again x v))) cut some in (
             index_in_parent goes.2 i,
             on.shared.within i few,
-            ap (λ (v : Content). at_cut (again x v) i) cut ∙ placed_at x.rules x.geometry s (at_cut (again x s) number) goes.2 on.shared i few,
+            ap (λ (v : Content). at_cut (again x v) i) cut ∙ ap (λ (y : PowerOn). y.content) (placed_at (again x s) (at_cut (again x s) number) goes.2 on.shared i few),
           );
     }
 

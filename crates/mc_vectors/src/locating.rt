@@ -1,5 +1,5 @@
 //! Where a flash occurs among those that power cuts leave, or in which sectors it differs from the nearest of them.
-ghost use Rattle.std.specs.Prelude.{◌≡◌, ◌+◌, ◌++◌, ◌<◌, ◌≤◌, ℕ, [], AllPairs, Contains, IfErr, IfOk, OnErr, OnOk, Some, length, min, true};
+ghost use Rattle.std.specs.Prelude.{◌≡◌, ◌+◌, ◌++◌, ◌<◌, ◌≤◌, ℕ, [], AllPairs, Contains, IfOk, OnErr, OnOk, Some, length, min, true};
 ghost use Rattle.std.specs.Io.KnownBytes.{Appends};
 ghost use Rattle.mc_boot.specs.Outcome.{after};
 ghost use Rattle.mc_explore.specs.Schedules.{CanOccur};
@@ -15,7 +15,7 @@ ghost use Rattle.mc_vectors.specs.inner.Locating.{IsNearestCase, differing_in};
 use crate::case::Case;
 use crate::search::find_cases;
 use mc_explore::{ReplayError, Schedule, Start, flash_at_cut};
-use mc_flash::{Flash, FlashError, Slot};
+use mc_flash::{Flash, Slot};
 use mc_output::{Line, WriteFailed, write_line};
 use std::alloc::{AllocError, Global};
 use std::io::Write;
@@ -144,17 +144,16 @@ fn differing<F: Flash>(
 }
 
 // The flash that a schedule leaves.
-fn flash_left<F: Flash>(alloc: Global, start: &Start, schedule: &Schedule) -> Result<F, FlashError>
+fn flash_left<F: Flash>(alloc: Global, start: &Start, schedule: &Schedule) -> Result<F, AllocError>
     requires { CanOccur (begun start.now) schedule.now }
     ensures left { IfOk result
         (λ flash. after (begun start.now) schedule.now ≡ Some (F.seen flash).content) }
     ensures geometry { IfOk result (λ flash. (F.seen flash).geometry ≡ start.now.geometry) }
     ensures sized { IfOk result (λ flash. IsSized start.now.geometry (F.seen flash).content) }
-    ensures err { IfErr result (λ e. e ≡ FlashError.Memory) }
 {
     let flash = match flash_at_cut::<F>(alloc, start, schedule) {
         Ok(flash) => flash,
-        Err(ReplayError::Memory) => return Err(FlashError::Memory),
+        Err(ReplayError::Memory) => return Err(AllocError),
         Err(ReplayError::CannotOccur(_)) => unreachable!(),
     };
     // The slots give the prover their lengths.
@@ -170,13 +169,12 @@ fn count_left<F: Flash>(
     schedule: &Schedule,
     wanted: &Wanted<'_>,
     most: usize,
-) -> Result<usize, FlashError>
+) -> Result<usize, AllocError>
     requires occurs { CanOccur (begun start.now) schedule.now }
     requires sized { IsSized start.now.geometry wanted.now }
-    ensures count { IfOk result (λ count. (u : Content)
+    ensures { IfOk result (λ count. (u : Content)
         → after (begun start.now) schedule.now ≡ Some u
         → count ≡ min most (distance start.now.geometry u wanted.now)) }
-    ensures err { IfErr result (λ e. e ≡ FlashError.Memory) }
 {
     let flash = flash_left::<F>(alloc, start, schedule)?;
     Ok(count(&flash, wanted, most))
@@ -188,12 +186,11 @@ fn nearest<F: Flash>(
     start: &Start,
     cases: &[Case],
     wanted: &Wanted<'_>,
-) -> Result<Schedule, FlashError>
+) -> Result<Schedule, AllocError>
     requires occur { (c : Case) → Contains cases.now c → CanOccur (begun start.now) c.schedule }
     requires sorted { AllPairs (λ c d. ComesBefore c.schedule d.schedule) cases.now }
     requires sized { IsSized start.now.geometry wanted.now }
-    ensures nearest { IfOk result (IsNearestCase (begun start.now) wanted.now cases.now) }
-    ensures err { IfErr result (λ e. e ≡ FlashError.Memory) }
+    ensures { IfOk result (IsNearestCase (begun start.now) wanted.now cases.now) }
 {
     let layout = start.layout();
     let mut best = Schedule::new();
@@ -220,14 +217,14 @@ fn nearest<F: Flash>(
 ///
 /// # Errors
 ///
-/// `Memory` where an allocation failed.
+/// Where an allocation failed.
 pub fn locate<F: Flash>(
     alloc: Global,
     start: &Start,
     primary: &[u8],
     secondary: &[u8],
     bound: u8,
-) -> Result<Located, FlashError>
+) -> Result<Located, AllocError>
     requires bound { bound ≤ 16 }
     requires primary { length primary.now ≡ size_of start.now.geometry Primary }
     requires secondary { length secondary.now ≡ size_of start.now.geometry Secondary }
@@ -243,7 +240,6 @@ pub fn locate<F: Flash>(
     ensures same { IfOk result (λ located. located.differs.items ≡ []
         → after (begun start.now) located.schedule
         ≡ Some (content_of primary.now secondary.now)) }
-    ensures err { IfErr result (λ e. e ≡ FlashError.Memory) }
 {
     let found = find_cases::<F>(alloc, start, bound)?;
     let wanted = Wanted { primary, secondary };

@@ -1,5 +1,5 @@
 //! The search for the flashes that power cuts leave: by the shortest schedules first, and not beyond a flash that was met before.
-ghost use Rattle.std.specs.Prelude.{◌≡◌, ◌+◌, ◌++◌, ◌∷◌, ◌<◌, ◌≤◌, ℕ, [], Contains, false, true, length, IfErr, IfOk, OnOk};
+ghost use Rattle.std.specs.Prelude.{◌≡◌, ◌+◌, ◌++◌, ◌∷◌, ◌<◌, ◌≤◌, ℕ, [], Contains, false, true, length, IfOk, OnOk};
 ghost use Rattle.mc_explore.specs.Schedules.{CanOccur};
 ghost use Rattle.mc_explore.specs.inner.OneRound.{begun_of};
 ghost use Rattle.mc_start.specs.Start.{begun};
@@ -10,32 +10,31 @@ ghost use Rattle.mc_vectors.specs.inner.Searching.{GoesOnAt, IsAt, IsBelow, IsCa
 use crate::case::{Case, Found};
 use crate::digests::Digests;
 use mc_explore::{OneRound, Schedule, Start, go_to_child, load_walk, replay};
-use mc_flash::{Flash, FlashError};
+use mc_flash::Flash;
 use mc_walk::{FlashTree, Walk};
-use std::alloc::Global;
+use std::alloc::{AllocError, Global};
 use std::collections::BTreeSet;
 
 // The walk at the end of a schedule that can occur, with one cut more to come.
-fn walk_to<F: Flash>(
+fn walk_to<'a, F: Flash>(
     alloc: Global,
-    start: &Start,
+    start: &'a Start,
     schedule: &Schedule,
-) -> Result<Walk<F, OneRound>, FlashError>
+) -> Result<Walk<F, OneRound<'a>>, AllocError>
     requires few { length schedule.now < 16 }
     requires occurs { CanOccur (begun start.now) schedule.now }
     ensures at { IfOk result (IsAt (begun start.now) schedule.now) }
     ensures more { IfOk result (λ walk. length walk.path < walk.bound) }
-    ensures err { IfErr result (λ e. e ≡ FlashError.Memory) }
 {
     let cuts = schedule.cuts();
-    let mut walk: Walk<F, OneRound> = load_walk(alloc, start, cuts.len() as u8 + 1, ())?;
-    walk.begin(start)?;
-    walk.follow(cuts, start)?;
+    let mut walk: Walk<F, OneRound<'a>> = load_walk(alloc, start, cuts.len() as u8 + 1, ())?;
+    walk.begin()?;
+    walk.follow(cuts)?;
     Ok(walk)
 }
 
 // Whether the boot from where a walk stands is known to go on with the one that was cut, and leaves no other flashes.
-fn joins<F: Flash>(walk: &Walk<F, OneRound>) -> bool
+fn joins<F: Flash>(walk: &Walk<F, OneRound<'_>>) -> bool
     requires { walk.now.stands ≡ true }
     ensures { result ≡ true → GoesOnAt (begun_of walk.now) walk.now }
 {
@@ -55,14 +54,13 @@ fn own_case<F: Flash>(
     schedule: &Schedule,
     digest: [u8; 32],
     lefts: &mut Digests,
-) -> Result<Case, FlashError>
+) -> Result<Case, AllocError>
     requires { AreOfFlash start.now.geometry.sector lefts.old }
     ensures case { IfOk result (λ case. IsOwnCase (begun start.now) schedule.now digest case) }
     ensures digests { OnOk result (AreOfFlash start.now.geometry.sector lefts.new) }
-    ensures err { IfErr result (λ e. e ≡ FlashError.Memory) }
 {
     let Ok((outcome, flash)) = replay::<F>(alloc, start, schedule) else {
-        return Err(FlashError::Memory);
+        return Err(AllocError);
     };
     let left = lefts.digest(&flash)?;
     Ok(Case {
@@ -77,17 +75,16 @@ fn own_case<F: Flash>(
 // The case of the flash where a walk stands, at a cut of the boot from another case.
 fn case_here<F: Flash>(
     alloc: Global,
-    walk: &Walk<F, OneRound>,
+    walk: &Walk<F, OneRound<'_>>,
     parent: &Case,
     start: &Start,
     digest: [u8; 32],
     lefts: &mut Digests,
-) -> Result<Case, FlashError>
+) -> Result<Case, AllocError>
     requires digests { AreOfFlash start.now.geometry.sector lefts.old }
     requires at { IsAt (begun start.now) walk.now.path walk.now }
     ensures case { IfOk result (IsCaseHere (begun start.now) walk.now parent.now digest) }
     ensures digests { OnOk result (AreOfFlash start.now.geometry.sector lefts.new) }
-    ensures err { IfErr result (λ e. e ≡ FlashError.Memory) }
 {
     let outcome = walk.summary().outcome;
     let schedule = Schedule::of(&walk.path());
@@ -129,14 +126,13 @@ impl Search {
     }
 
     // Adds the case of the start.
-    fn begin<F: Flash>(&mut self, start: &Start) -> Result<(), FlashError>
+    fn begin<F: Flash>(&mut self, start: &Start) -> Result<(), AllocError>
         requires ready { IsReady start.now.geometry.sector self.old }
         requires none { (self.old.cases.items ≡ []) × (self.old.known.keys ≡ []) }
         ensures ready { OnOk result (IsReady start.now.geometry.sector self.new) }
         ensures begun { OnOk result ((bound : ℕ)
             → IsSearch (begun start.now) bound self.new.cases.items 0
             × IsBelow self.new.cases.items 0) }
-        ensures err { IfErr result (λ e. e ≡ FlashError.Memory) }
     {
         let (primary, secondary) = (start.primary(), start.secondary());
         let digest = self.cuts.digest_of(start.layout(), primary, secondary)?;
@@ -150,10 +146,10 @@ impl Search {
     // Adds the case of the flash where a walk stands, at a cut of the boot from another case, where it was not met before.
     fn visit<F: Flash>(
         &mut self,
-        walk: &Walk<F, OneRound>,
+        walk: &Walk<F, OneRound<'_>>,
         parent: &Case,
         start: &Start,
-    ) -> Result<(), FlashError>
+    ) -> Result<(), AllocError>
         requires ready { IsReady start.now.geometry.sector self.old }
         requires at { IsAt (begun start.now) walk.now.path walk.now }
         ensures ready { OnOk result (IsReady start.now.geometry.sector self.new) }
@@ -162,7 +158,6 @@ impl Search {
             → IsExpanding (begun start.now) bound self.old.cases.items index number parent.now
             → IsExpanding (begun start.now) bound self.new.cases.items index (number + 1)
             parent.now) }
-        ensures err { IfErr result (λ e. e ≡ FlashError.Memory) }
     {
         // The summary gives the prover where the flash stands.
         let _summary = walk.summary();
@@ -176,7 +171,7 @@ impl Search {
     }
 
     // Adds the cases of the flashes that cuts of the boot from a case leave.
-    fn expand<F: Flash>(&mut self, start: &Start, case: &Case) -> Result<(), FlashError>
+    fn expand<F: Flash>(&mut self, start: &Start, case: &Case) -> Result<(), AllocError>
         requires ready { IsReady start.now.geometry.sector self.old }
         requires few { length case.now.schedule < 16 }
         requires occurs { CanOccur (begun start.now) case.now.schedule }
@@ -184,14 +179,11 @@ impl Search {
         ensures expanded { OnOk result ((bound index : ℕ)
             → IsExpanding (begun start.now) bound self.old.cases.items index 0 case.now
             → IsDoneNext (begun start.now) bound self.new.cases.items index) }
-        ensures err { IfErr result (λ e. e ≡ FlashError.Memory) }
     {
         let mut walk = walk_to::<F>(self.alloc, start, &case.schedule)?;
         let count = walk.flash_tree().width(walk.summary());
         for number in 0..count {
-            let Ok(()) = go_to_child(&mut walk, number, start) else {
-                return Err(FlashError::Memory);
-            };
+            go_to_child(&mut walk, number)?;
             self.visit(&walk, case, start)?;
         }
         Ok(())
@@ -220,15 +212,14 @@ impl Search {
 ///
 /// # Errors
 ///
-/// `Memory` where an allocation failed.
-pub fn find_cases<F: Flash>(alloc: Global, start: &Start, bound: u8) -> Result<Found, FlashError>
+/// Where an allocation failed.
+pub fn find_cases<F: Flash>(alloc: Global, start: &Start, bound: u8) -> Result<Found, AllocError>
     requires { bound ≤ 16 }
     ensures cases { IfOk result (λ found. AreCases (begun start.now) (AtMost bound)
         found.cases.items) }
     // Where it is whole, no number of cuts leaves another flash.
     ensures whole { IfOk result (λ found. found.whole ≡ true
         → AreCases (begun start.now) AnyCuts found.cases.items) }
-    ensures err { IfErr result (λ e. e ≡ FlashError.Memory) }
 {
     let mut search = Search::new(alloc);
     search.begin::<F>(start)?;
@@ -242,5 +233,5 @@ pub fn find_cases<F: Flash>(alloc: Global, start: &Start, bound: u8) -> Result<F
         }
     }
     // No memory holds so many cases.
-    Err(FlashError::Memory)
+    Err(AllocError)
 }

@@ -6,29 +6,29 @@ use Rattle.mc_flash.specs.{Usage.{Checkpoint, Seen, Spent}, facts.Spends.{spent_
 use Rattle.mc_tree.specs.{Tree.{After, IsMember, IsNext, labelled}, facts.Order.{childless, next_above, next_below, none_above}}
 use Rattle.mc_walk.proofs.Steps.{standing}
 use Rattle.mc_walk.specs.TreeModel.{TreeModel}
-use Rattle.mc_walk.specs.Walks.{Advances, Climbs, Follows, GoesDown, IsGoing, IsSame, StopsOn, Walked, child_cost, origin_of, path_cost, root_of}
+use Rattle.mc_walk.specs.Walks.{Advances, Climbs, Follows, GoesDown, IsGoing, IsSame, StopsOn, Walked, child_cost, path_cost}
 use Rattle.mc_walk.specs.{declared.frame.Frame.{Frame}, facts.Same.{path_back}, inner.Stack.{AreFrames, path_of}}
 
 -- A walk from one path to another.
 
 module _ {N A T B : Type 0} (model : B → TreeModel N A T) where
   abbrev IsPath : Walked B → List ℕ → Type 0
-  IsPath w l = IsMember (model w.flash_tree).tree (root_of (model w.flash_tree) w) w.bound l
+  IsPath w l = IsMember (model w.flash_tree).tree (model w.flash_tree).root w.bound l
 
   pub advanced_down : (old new : Walked B) (went : Bool) → went ≡ true → GoesDown (model old.flash_tree) 0 old went new → Advances (model old.flash_tree) old true new
   advanced_down old new true e d =
       let k : TreeModel N A T = model old.flash_tree in
-      (subst (IsNext (IsMember k.tree (root_of k old) old.bound) (After old.path)) (sym d.0) (next_below k.tree (root_of k old) old.bound old.path (subst (IsPath old) d.0 d.1)), d.2, d.3)
+      (subst (IsNext (IsMember k.tree k.root old.bound) (After old.path)) (sym d.0) (next_below k.tree k.root old.bound old.path (subst (IsPath old) d.0 d.1)), d.2, d.3)
   advanced_down old new false e d = absurd (cc)
 
   advanced_from : (old new : Walked B) (up : Bool) → length old.path ≤ old.bound → (IsPath old (old.path ++ 0 ∷ []) → ⊥) → Climbs (model old.flash_tree) old up new
       → Advances (model old.flash_tree) old up new
   advanced_from old new true at_most none c =
       let k : TreeModel N A T = model old.flash_tree in
-      (next_above k.tree (root_of k old) old.bound old.path new.path at_most (childless k.tree (root_of k old) old.bound old.path none) c.0, c.1, c.2)
+      (next_above k.tree k.root old.bound old.path new.path at_most (childless k.tree k.root old.bound old.path none) c.0, c.1, c.2)
   advanced_from old new false at_most none c =
       let k : TreeModel N A T = model old.flash_tree in
-      (none_above k.tree (root_of k old) old.bound old.path (childless k.tree (root_of k old) old.bound old.path none) c.0, c.1, c.2)
+      (none_above k.tree k.root old.bound old.path (childless k.tree k.root old.bound old.path none) c.0, c.1, c.2)
 
   pub advanced_up : (old mid new : Walked B) (down up : Bool) → length old.path ≤ old.bound → down ≡ false → GoesDown (model old.flash_tree) 0 old down mid → Climbs (model mid.flash_tree) mid up new
       → Advances (model old.flash_tree) old up new
@@ -46,7 +46,7 @@ module _ {N A T B : Type 0} (model : B → TreeModel N A T) where
   along_begin path old stands member = record {
     path_is = sym (append-nil old.path);
     stands = stands;
-    same = record { flash_tree = refl; bound = refl; origin = refl };
+    same = record { flash_tree = refl; bound = refl };
     member = member;
     spent = record { applied = omega arith; limits = refl; failed = refl };
   }
@@ -69,7 +69,7 @@ module _ {N A T B : Type 0} (model : B → TreeModel N A T) where
       let step = subst (λ b. Spent (child_cost (model b) (get_or path n 0)) mid.seen new.seen) a.same.flash_tree s in
       let k : TreeModel N A T = model old.flash_tree in
       let cost : path_cost k (take n path) + child_cost k (get_or path n 0) ≡ path_cost k (take (n + 1) path) = sym (ap (path_cost k) more ∙ path_cost-push k (take n path) (get_or path n 0)) in
-      let same : IsSame old new = record { flash_tree = d.2.flash_tree ∙ a.same.flash_tree; bound = d.2.bound ∙ a.same.bound; origin = d.2.origin ∙ a.same.origin } in
+      let same : IsSame old new = record { flash_tree = d.2.flash_tree ∙ a.same.flash_tree; bound = d.2.bound ∙ a.same.bound } in
       record {
         path_is = d.0 ∙ ap (λ z. z ++ get_or path n 0 ∷ []) a.path_is ∙ append_assoc old.path (take n path) (get_or path n 0 ∷ []) ∙ ap (λ z. old.path ++ z) (sym more);
         stands = d.3;
@@ -115,10 +115,10 @@ module _ {N A T L : Type 0} (k : TreeModel N A T) (label : N → ℕ → L) wher
 
   module _ (bound i : ℕ) (seen : Seen) (fs : List (Frame A T)) (summary : Option T) where
     pub label_at : (f : Frame A T) (said : L) → is_some summary ≡ true → IfSome summary (IsGoing k bound seen fs) → slice_get fs i ≡ Some f
-        → ((n : N) (j : ℕ) → k.IsOn n j f.at → said ≡ label n j) → Some said ≡ slice_get (labelled k.tree label (k.root (origin_of seen)) (path_of fs)) i
+        → ((n : N) (j : ℕ) → k.IsOn n j f.at → said ≡ label n j) → Some said ≡ slice_get (labelled k.tree label k.root (path_of fs)) i
     label_at f said stands going is says =
         let st = (standing k bound seen fs summary stands going).1.stands.stacked in
-        sym (frames_label (k.root (origin_of seen)) 0 st.above fs i f said st.frames is says)
+        sym (frames_label k.root 0 st.above fs i f said st.frames is says)
 
-    pub no_label : (i < length fs → false ≡ true) → None ≡ slice_get (labelled k.tree label (k.root (origin_of seen)) (path_of fs)) i
+    pub no_label : (i < length fs → false ≡ true) → None ≡ slice_get (labelled k.tree label k.root (path_of fs)) i
     no_label not = grind (arith, slice_get_past, path_label)

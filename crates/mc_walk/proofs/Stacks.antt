@@ -2,7 +2,7 @@
 use Rattle.std.proofs.Common.{Err, IfOk, List, Ok, OnOk, Option, Result, Some, [], ap, append_assoc, arith, length, length-append, option_to_list, refl, slice_get, subst, suc, sym, take, zero, ℕ, ◌*◌, ◌++◌, ◌+◌, ◌-◌, ◌<◌, ◌^◌, ◌∙◌, ◌∷◌, ◌≡◌}
 use Rattle.std.proofs.{lemmas.List.{append-nil, get_or_at, map-append, take_at}, lemmas.Option.{same_Some, slice_get_within}}
 use Rattle.std.specs.Prelude.{slice_index_or}
-use Rattle.mc_flash.specs.{Flash.{Content}, Usage.{Checkpoint, Counts, LeaveRoom, Seen, Stays, checkpoint_at, checkpoint_of, marked, no_checkpoint, went_back}}
+use Rattle.mc_flash.specs.{Usage.{Checkpoint, Counts, LeaveRoom, Seen, Stays, checkpoint_at, checkpoint_of, marked, no_checkpoint, went_back}}
 use Rattle.mc_tree.specs.{Tree.{Allowed, landed}, facts.Order.{AllLast, landed-push}}
 use Rattle.mc_walk.specs.{TreeModel.{IsAt, IsChild, TreeModel, IsChildSummary}, declared.frame.Frame.{Frame}}
 use Rattle.mc_walk.specs.inner.Stack.{AreFrames, AreOff, AreSpent, Comes, IsFrame, IsLastOpen, IsLeft, IsOpen, IsSpent, Stacked, Stands, most_at, node_of, path_of}
@@ -133,25 +133,20 @@ module _ {N A T : Type 0} (k : TreeModel N A T) where
         rest = subst (λ p. AreFrames k (k.tree.child end f.number) (p + 1) r.after more) e r.rest;
       }
 
-  -- The first checkpoint is that of the origin.
-  pub first_is_origin : (origin : Content) (f : Seen) (fs : List (Frame A T)) → Stacked k origin f.checkpoints fs → (checkpoint_at f 0).content ≡ origin
-  first_is_origin origin f fs st = ap (λ (ms : List Checkpoint). (slice_index_or ms 0 no_checkpoint).content) st.checkpoints_are ∙ st.origin_is
+  pub length-stack : (checkpoints : List Checkpoint) (fs : List (Frame A T)) → Stacked k checkpoints fs → length checkpoints ≡ 1 + length fs
+  length-stack checkpoints fs st = omega (arith, ap length st.checkpoints_are, length-frames k.root 0 st.above fs st.frames)
 
-  pub length-stack : (origin : Content) (checkpoints : List Checkpoint) (fs : List (Frame A T)) → Stacked k origin checkpoints fs → length checkpoints ≡ 1 + length fs
-  length-stack origin checkpoints fs st = omega (arith, ap length st.checkpoints_are, length-frames (k.root origin) 0 st.above fs st.frames)
-
-  pub node-push : (origin : Content) (fs : List (Frame A T)) (f : Frame A T) → node_of k origin (fs ++ f ∷ []) ≡ k.tree.child (node_of k origin fs) f.number
-  node-push origin fs f = ap (landed k.tree (k.root origin)) (path-push fs f) ∙ landed-push k.tree (k.root origin) (path_of fs) f.number
+  pub node-push : (fs : List (Frame A T)) (f : Frame A T) → node_of k (fs ++ f ∷ []) ≡ k.tree.child (node_of k fs) f.number
+  node-push fs f = ap (landed k.tree k.root) (path-push fs f) ∙ landed-push k.tree k.root (path_of fs) f.number
 
   -- The flash was marked at a child, and its frame is put on.
-  stacked-push : (origin : Content) (checkpoints : List Checkpoint) (fs : List (Frame A T)) (checkpoint : Checkpoint) (f : Frame A T) → Stacked k origin checkpoints fs
-      → IsFrame k (node_of k origin fs) (length fs) checkpoint f → Stacked k origin (checkpoints ++ checkpoint ∷ []) (fs ++ f ∷ [])
-  stacked-push origin checkpoints fs checkpoint f st h = record {
+  stacked-push : (checkpoints : List Checkpoint) (fs : List (Frame A T)) (checkpoint : Checkpoint) (f : Frame A T) → Stacked k checkpoints fs
+      → IsFrame k (node_of k fs) (length fs) checkpoint f → Stacked k (checkpoints ++ checkpoint ∷ []) (fs ++ f ∷ [])
+  stacked-push checkpoints fs checkpoint f st h = record {
     first = st.first;
     above = st.above ++ checkpoint ∷ [];
     checkpoints_are = ap (λ ms. ms ++ checkpoint ∷ []) st.checkpoints_are;
-    origin_is = st.origin_is;
-    frames = frames-push (k.root origin) 0 st.above fs checkpoint f st.frames (subst (λ p. IsFrame k (node_of k origin fs) p checkpoint f) (none_more (length fs)) h);
+    frames = frames-push k.root 0 st.above fs checkpoint f st.frames (subst (λ p. IsFrame k (node_of k fs) p checkpoint f) (none_more (length fs)) h);
   }
 
   -- What is counted and owed at the child is no more than that after one step more.
@@ -160,15 +155,15 @@ module _ {N A T : Type 0} (k : TreeModel N A T) where
   frame_counts count checkpoint n fs f e h = grind arith
 
   -- And its node has a summary.
-  pub entered : (origin : Content) (seen new : Seen) (fs : List (Frame A T)) (f : Frame A T) (summary : T) → Comes k origin seen fs f → Stays (marked seen) new
-      → k.IsSummary (k.tree.child (node_of k origin fs) f.number) summary → Stands k origin new (fs ++ f ∷ []) summary
-  entered origin seen new fs f summary c s t =
-      let node = node-push origin fs f in
+  pub entered : (seen new : Seen) (fs : List (Frame A T)) (f : Frame A T) (summary : T) → Comes k seen fs f → Stays (marked seen) new
+      → k.IsSummary (k.tree.child (node_of k fs) f.number) summary → Stands k new (fs ++ f ∷ []) summary
+  entered seen new fs f summary c s t =
+      let node = node-push fs f in
       let steps : length (fs ++ f ∷ []) ≡ length fs + 1 = omega (arith, length-append fs (f ∷ [])) in
-      let at_most = frame_counts (length (fs ++ f ∷ [])) (checkpoint_of seen) (node_of k origin fs) fs f steps c.frame in
-      let owed : k.owed (node_of k origin (fs ++ f ∷ [])) ≡ k.owed (k.tree.child (node_of k origin fs) f.number) = ap k.owed node in
+      let at_most = frame_counts (length (fs ++ f ∷ [])) (checkpoint_of seen) (node_of k fs) fs f steps c.frame in
+      let owed : k.owed (node_of k (fs ++ f ∷ [])) ≡ k.owed (k.tree.child (node_of k fs) f.number) = ap k.owed node in
       record {
-        stacked = subst (λ ms. Stacked k origin ms (fs ++ f ∷ [])) (sym s.checkpoints) (stacked-push origin seen.checkpoints fs (checkpoint_of seen) f c.stacked c.frame);
+        stacked = subst (λ ms. Stacked k ms (fs ++ f ∷ [])) (sym s.checkpoints) (stacked-push seen.checkpoints fs (checkpoint_of seen) f c.stacked c.frame);
         content_is = s.content ∙ c.frame.content_is ∙ ap k.content (sym node);
         layout_is = s.geometry ∙ c.layout_is;
         summary_is = subst (λ n. k.IsSummary n summary) (sym node) t;
@@ -179,36 +174,36 @@ module _ {N A T : Type 0} (k : TreeModel N A T) where
       }
 
   -- It stands at a child.
-  at_child : (origin : Content) (seen mid : Seen) (fs : List (Frame A T)) (f : Frame A T) → Comes k origin seen fs f → mid ≡ marked seen
-      → IsAt k (node_of k origin fs) f.number f.at mid
-  at_child origin seen mid fs f c m = grind arith
+  at_child : (seen mid : Seen) (fs : List (Frame A T)) (f : Frame A T) → Comes k seen fs f → mid ≡ marked seen
+      → IsAt k (node_of k fs) f.number f.at mid
+  at_child seen mid fs f c m = grind arith
 
-  pub child_here : (origin : Content) (seen mid : Seen) (fs : List (Frame A T)) (f : Frame A T) → Comes k origin seen fs f → mid ≡ marked seen → IsChild k f.at f.parent mid
-  child_here origin seen mid fs f c m = (node_of k origin fs, f.number, at_child origin seen mid fs f c m, c.frame.some, c.frame.summary_is)
+  pub child_here : (seen mid : Seen) (fs : List (Frame A T)) (f : Frame A T) → Comes k seen fs f → mid ≡ marked seen → IsChild k f.at f.parent mid
+  child_here seen mid fs f c m = (node_of k fs, f.number, at_child seen mid fs f c m, c.frame.some, c.frame.summary_is)
 
   -- The same, by the result of the call.
-  pub entered_summary : {E : Type 0} (origin : Content) (seen mid new : Seen) (fs all : List (Frame A T)) (f : Frame A T) (r : Result T E) → Comes k origin seen fs f
-      → mid ≡ marked seen → all ≡ fs ++ f ∷ [] → IfOk r (IsChildSummary k f.at f.parent mid) → OnOk r (Stays mid new) → IfOk r (λ summary. Stands k origin new all summary)
-  entered_summary origin seen mid new fs all f (Ok summary) c m a t s =
+  pub entered_summary : {E : Type 0} (seen mid new : Seen) (fs all : List (Frame A T)) (f : Frame A T) (r : Result T E) → Comes k seen fs f
+      → mid ≡ marked seen → all ≡ fs ++ f ∷ [] → IfOk r (IsChildSummary k f.at f.parent mid) → OnOk r (Stays mid new) → IfOk r (λ summary. Stands k new all summary)
+  entered_summary seen mid new fs all f (Ok summary) c m a t s =
       let s' : Stays (marked seen) new = subst (λ z. Stays z new) m s in
-      let summary_is = t (node_of k origin fs) f.number (at_child origin seen mid fs f c m) c.frame.some c.frame.summary_is in
-      subst (λ z. Stands k origin new z summary) (sym a) (entered origin seen new fs f summary c s' summary_is)
-  entered_summary origin seen mid new fs all f (Err e) c m a t s = tt
+      let summary_is = t (node_of k fs) f.number (at_child seen mid fs f c m) c.frame.some c.frame.summary_is in
+      subst (λ z. Stands k new z summary) (sym a) (entered seen new fs f summary c s' summary_is)
+  entered_summary seen mid new fs all f (Err e) c m a t s = tt
 
   -- Frames are taken off, and the flash is back at the checkpoint of the last of them.
-  pub popped : (origin : Content) (seen : Seen) (all fs : List (Frame A T)) (f : Frame A T) (more : List (Frame A T)) → Stacked k origin seen.checkpoints all
-      → seen.geometry ≡ k.geometry → all ≡ fs ++ f ∷ more → Comes k origin (went_back (length fs + 1) seen) fs f × (length fs + 1 < length seen.checkpoints)
+  pub popped : (seen : Seen) (all fs : List (Frame A T)) (f : Frame A T) (more : List (Frame A T)) → Stacked k seen.checkpoints all
+      → seen.geometry ≡ k.geometry → all ≡ fs ++ f ∷ more → Comes k (went_back (length fs + 1) seen) fs f × (length fs + 1 < length seen.checkpoints)
   unfolding went_back
-  popped origin seen all fs f more st layout e =
-      let r = among (k.root origin) 0 st.above fs f more (subst (AreFrames k (k.root origin) 0 st.above) e st.frames) in
-      let n : length (st.first ∷ r.before) ≡ length fs + 1 = omega (arith, length-frames (k.root origin) 0 r.before fs r.frames) in
+  popped seen all fs f more st layout e =
+      let r = among k.root 0 st.above fs f more (subst (AreFrames k k.root 0 st.above) e st.frames) in
+      let n : length (st.first ∷ r.before) ≡ length fs + 1 = omega (arith, length-frames k.root 0 r.before fs r.frames) in
       let checkpoints : seen.checkpoints ≡ (st.first ∷ r.before) ++ r.checkpoint ∷ r.after = st.checkpoints_are ∙ ap (λ z. st.first ∷ z) r.checkpoints_are in
       let checkpoint : checkpoint_at seen (length fs + 1) ≡ r.checkpoint = ap (λ ms. slice_index_or ms (length fs + 1) no_checkpoint) checkpoints
       ∙ get_or_at (st.first ∷ r.before) r.checkpoint r.after no_checkpoint (length fs + 1) n in
       let left : take (length fs + 1) seen.checkpoints ≡ st.first ∷ r.before = ap (take (length fs + 1)) checkpoints ∙ take_at (st.first ∷ r.before) (r.checkpoint ∷ r.after) (length fs + 1) n in
-      let node : N = node_of k origin fs in (
+      let node : N = node_of k fs in (
         record {
-          stacked = record { first = st.first; above = r.before; checkpoints_are = left; origin_is = st.origin_is; frames = r.frames };
+          stacked = record { first = st.first; above = r.before; checkpoints_are = left; frames = r.frames };
           layout_is = layout;
           frame = subst (λ p. IsFrame k node p (checkpoint_at seen (length fs + 1)) f) (sym (none_more (length fs))) (subst (λ s. IsFrame k node (0 + length fs) s f) (sym checkpoint) r.frame);
         },

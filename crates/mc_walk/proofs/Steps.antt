@@ -2,13 +2,12 @@
 use Rattle.std.proofs.Common.{◌≡◌, ℕ, ◌+◌, ◌*◌, ◌<◌, ◌≤◌, true, false, List, [], ◌∷◌, ◌++◌, length, Option, Some, None, Result, Ok, OnOk, IfSome, is_some, slice_index_or, slice_set, ◌-◌, length-append, refl, sym, ap, subst, ◌∙◌, arith}
 use Rattle.std.proofs.lemmas.List.{map-append, length-map, get_or_at, set_at}
 use Rattle.mc_tree.specs.{Tree.{Allowed}, facts.Order.{IsNextBeyond, allowed-last, none_beyond, next_beyond}}
-use Rattle.mc_flash.specs.Flash.{Content}
 use Rattle.mc_flash.specs.Usage.{Counts, Checkpoint, Seen, Keeps, checkpoint_of, went_back, marked, Spent, Spends, Stays, HasRoom, LeaveRoom, plus, room_of}
 use Rattle.mc_flash.specs.{facts.Spends.{spent_back, spent_both, spent_more}, declared.flash.FlashError.{FlashError}}
 use Rattle.mc_walk.specs.TreeModel.{TreeModel, owed_there, summary_cost, IsAt, IsParent, HasNext, ReachesNext, CanReach}
 use Rattle.mc_walk.specs.inner.Stack.{path_of, most_at, AreSpent, IsLastOpen, AreFrames, Stacked, node_of, Stands, Comes, CanGoOn, IsLeft, IsOneOn, IsRoomy}
-use Rattle.mc_walk.specs.{Walks.{walked, origin_of, IsFresh, Begins, IsThere, IsGoing, IsLastStep, IsPath, GoesDown, Climbs}, declared.frame.Frame.{Frame}}
-use Rattle.mc_walk.proofs.Stacks.{path-push, no_path, frames_allowed, frames_last, among, node-push, first_is_origin, length-stack, popped}
+use Rattle.mc_walk.specs.{Walks.{walked, IsFresh, Begins, IsThere, IsGoing, IsLastStep, IsPath, GoesDown, Climbs}, declared.frame.Frame.{Frame}}
+use Rattle.mc_walk.proofs.Stacks.{path-push, no_path, frames_allowed, frames_last, among, node-push, length-stack, popped}
 
 pub ok_any : {X E P : Type 0} (r : Result X E) → P → OnOk r P
 ok_any it p = grind arith
@@ -31,18 +30,18 @@ module _ {N A T : Type 0} (k : TreeModel N A T) where
       → LeaveRoom counts (plus left k.most) (room_of seen.usage.limits)
   child_room bound steps counts left seen r le h = grind arith
 
-  pub enter_room : (bound : ℕ) (origin : Content) (seen : Seen) (fs : List (Frame A T)) (f : Frame A T) → Comes k origin seen fs f → IsRoomy k bound seen → length fs < bound
+  pub enter_room : (bound : ℕ) (seen : Seen) (fs : List (Frame A T)) (f : Frame A T) → Comes k seen fs f → IsRoomy k bound seen → length fs < bound
       → HasRoom (owed_there k f.at) (marked seen)
-  enter_room bound origin seen fs f c r at_most =
-      let n = length-stack k origin seen.checkpoints fs c.stacked in
+  enter_room bound seen fs f c r at_most =
+      let n = length-stack k seen.checkpoints fs c.stacked in
       record {
         allows = child_room bound (length fs) seen.usage.counts (k.left f.at) seen r at_most c.frame.room;
         mark = omega (arith, n, at_most, r.checkpoints, length-append seen.checkpoints (checkpoint_of seen ∷ []));
       }
 
-  pub mark_room : (bound : ℕ) (origin : Content) (seen : Seen) (fs : List (Frame A T)) (f : Frame A T) → Comes k origin seen fs f → IsRoomy k bound seen → length fs < bound
+  pub mark_room : (bound : ℕ) (seen : Seen) (fs : List (Frame A T)) (f : Frame A T) → Comes k seen fs f → IsRoomy k bound seen → length fs < bound
       → length seen.checkpoints < seen.usage.limits.checkpoints
-  mark_room bound origin seen fs f c r at_most = omega (arith, length-stack k origin seen.checkpoints fs c.stacked, at_most, r.checkpoints)
+  mark_room bound seen fs f c r at_most = omega (arith, length-stack k seen.checkpoints fs c.stacked, at_most, r.checkpoints)
 
   -- A walk that stands is where its summary says.
   pub standing : (bound : ℕ) (seen : Seen) (fs : List (Frame A T)) (summary : Option T) → is_some summary ≡ true → IfSome summary (IsGoing k bound seen fs) → (t : T) × IsGoing k bound seen fs t
@@ -53,11 +52,11 @@ module _ {N A T : Type 0} (k : TreeModel N A T) where
       → IsPath k (walked b bound seen fs stood) (path_of fs)
   on_path b bound seen fs stood summary going =
       let st = going.stands.stacked in
-      (omega (arith, going.at_most, length-map fs (λ (f : Frame A T). f.number)), frames_allowed k (k.root (origin_of seen)) 0 st.above fs st.frames)
+      (omega (arith, going.at_most, length-map fs (λ (f : Frame A T). f.number)), frames_allowed k k.root 0 st.above fs st.frames)
 
   -- A walk has the summary of its root.
   pub begun : {B : Type 0} (b : B) (bound : ℕ) (old new : Seen) (fs : List (Frame A T)) (stood : Option T) (summary : T) → IsFresh k (walked b bound old fs stood) → Stays old new
-      → k.IsSummary (k.root old.content) summary → new.usage.limits ≡ old.usage.limits
+      → k.IsSummary k.root summary → new.usage.limits ≡ old.usage.limits
       → IsGoing k bound new fs summary × Begins k (walked b bound old fs stood) summary (walked b bound new fs (Some summary))
   begun b bound old new fs stood summary fresh stays summary_is limits =
       let none : [] ≡ fs = sym (no_path fs fresh.path) in
@@ -65,25 +64,25 @@ module _ {N A T : Type 0} (k : TreeModel N A T) where
 
   -- The flash is back at the last child that is not the last of its parent's.
   pub record Back (bound : ℕ) (old seen : Seen) (all fs : List (Frame A T)) (f : Frame A T) : Type 0 where
-    pub comes : Comes k (origin_of old) seen fs f
+    pub comes : Comes k seen fs f
     pub in_range : length fs + 1 < length old.checkpoints
     pub at_most : length fs < bound
     pub roomy : IsRoomy k bound seen
     pub spent : Spent 0 old seen
-    pub more : f.number + 1 < k.tree.width (node_of k (origin_of old) fs)
+    pub more : f.number + 1 < k.tree.width (node_of k fs)
     pub has_next : HasNext k f.at seen
 
   went_up_to : (bound : ℕ) (old : Seen) (all fs : List (Frame A T)) (f : Frame A T) (summary : T) → IsGoing k bound old all summary → IsLastOpen k f all fs
       → Back bound old (went_back (length fs + 1) old) all fs f
   went_up_to bound old all fs f summary going last =
       let seen : Seen = went_back (length fs + 1) old in
-      let p = popped k (origin_of old) old all fs f last.more going.stands.stacked going.stands.layout_is last.split in
+      let p = popped k old all fs f last.more going.stands.stacked going.stands.layout_is last.split in
       let spent = spent_back (length fs + 1) old in
       let roomy = roomy_stays bound old seen spent.limits going.roomy in
       let at_most : length fs < bound = omega (arith, going.at_most, ap length last.split, length-append fs (f ∷ last.more)) in
-      let here : IsAt k (node_of k (origin_of old) fs) f.number f.at seen = record { on_is = p.0.frame.on_is; content_is = p.0.frame.content_is; layout_is = p.0.layout_is } in
+      let here : IsAt k (node_of k fs) f.number f.at seen = record { on_is = p.0.frame.on_is; content_is = p.0.frame.content_is; layout_is = p.0.layout_is } in
       let room = steps_room bound (length fs) seen.usage.counts (k.left f.at) seen roomy (omega (arith, at_most)) p.0.frame.room in
-      let more : f.number + 1 < k.tree.width (node_of k (origin_of old) fs) = last.open_is (node_of k (origin_of old) fs) p.0.frame.summary_is in
+      let more : f.number + 1 < k.tree.width (node_of k fs) = last.open_is (node_of k fs) p.0.frame.summary_is in
       record {
         comes = p.0;
         in_range = p.1;
@@ -91,7 +90,7 @@ module _ {N A T : Type 0} (k : TreeModel N A T) where
         roomy = roomy;
         spent = spent;
         more = more;
-        has_next = (node_of k (origin_of old) fs, f.number, here, more, room);
+        has_next = (node_of k fs, f.number, here, more, room);
       }
 
   pub went_up : (bound : ℕ) (old seen : Seen) (all fs : List (Frame A T)) (f : Frame A T) (summary : T) → IsGoing k bound old all summary → IsLastOpen k f all fs
@@ -99,31 +98,31 @@ module _ {N A T : Type 0} (k : TreeModel N A T) where
   went_up bound old seen all fs f summary going last e = subst (λ z. Back bound old z all fs f) (sym e) (went_up_to bound old all fs f summary going last)
 
   -- It goes on to the next child.
-  pub went_on : (origin : Content) (seen new : Seen) (fs : List (Frame A T)) (f : Frame A T) (at : A) → Comes k origin seen fs f → f.number + 1 < k.tree.width (node_of k origin fs)
-      → Keeps seen new → ReachesNext k {E = FlashError} f.at seen (Ok tt) at new → Comes k origin new fs (record { at = at; number = f.number + 1; parent = f.parent })
-  went_on origin seen new fs f at c lt keeps goes = grind arith
+  pub went_on : (seen new : Seen) (fs : List (Frame A T)) (f : Frame A T) (at : A) → Comes k seen fs f → f.number + 1 < k.tree.width (node_of k fs)
+      → Keeps seen new → ReachesNext k {E = FlashError} f.at seen (Ok tt) at new → Comes k new fs (record { at = at; number = f.number + 1; parent = f.parent })
+  went_on seen new fs f at c lt keeps goes = grind arith
 
   -- A child is on its way, at that cost.
   pub record Ready (bound cost : ℕ) (old mid : Seen) (fs : List (Frame A T)) (f : Frame A T) : Type 0 where
-    pub comes : Comes k (origin_of old) mid fs f
+    pub comes : Comes k mid fs f
     pub at_most : length fs < bound
     pub roomy : IsRoomy k bound old
     pub spent : Spent cost old mid
 
   -- From the child of the last frame it went on to the next one.
-  module _ (seen mid : Seen) (all : List (Frame A T)) (c : CanGoOn k (origin_of seen) seen all) (f : Frame A T) (f_is : f ≡ c.frame) (at : A) (keeps : Keeps seen mid)
+  module _ (seen mid : Seen) (all : List (Frame A T)) (c : CanGoOn k seen all) (f : Frame A T) (f_is : f ≡ c.frame) (at : A) (keeps : Keeps seen mid)
       (goes : ReachesNext k {E = FlashError} f.at seen (Ok tt) at mid) (spent : Spent k.step seen mid) where
     abbrev pub next_on : Frame A T
     next_on = record { at = at; number = f.number + 1; parent = f.parent }
 
-    pub comes_on : Comes k (origin_of seen) mid c.before next_on
+    pub comes_on : Comes k mid c.before next_on
     comes_on = grind arith
 
     pub mark_on : length mid.checkpoints < mid.usage.limits.checkpoints
-    mark_on = mark_room c.bound (origin_of seen) mid c.before next_on comes_on (roomy_stays c.bound seen mid spent.limits c.roomy) c.at_most
+    mark_on = mark_room c.bound mid c.before next_on comes_on (roomy_stays c.bound seen mid spent.limits c.roomy) c.at_most
 
     pub room_on : HasRoom (owed_there k at) (marked mid)
-    room_on = enter_room c.bound (origin_of seen) mid c.before next_on comes_on (roomy_stays c.bound seen mid spent.limits c.roomy) c.at_most
+    room_on = enter_room c.bound mid c.before next_on comes_on (roomy_stays c.bound seen mid spent.limits c.roomy) c.at_most
 
   -- The last frame, and what is put in its place.
   last_now : (all before : List (Frame A T)) (f now : Frame A T) (n : ℕ) → n ≡ length all - 1 → now ≡ slice_index_or all n now → all ≡ before ++ f ∷ [] → now ≡ f
@@ -137,13 +136,13 @@ module _ {N A T : Type 0} (k : TreeModel N A T) where
   one_on all now next n is value number before f split =
       (next, last_set all before f next n is split, number ∙ ap (λ (z : Frame A T). z.number + 1) (last_now all before f now n is value split))
 
-  pub frames_on : (origin : Content) (seen : Seen) (all : List (Frame A T)) (c : CanGoOn k origin seen all) (next : Frame A T) (n : ℕ) → n ≡ length all - 1
+  pub frames_on : (seen : Seen) (all : List (Frame A T)) (c : CanGoOn k seen all) (next : Frame A T) (n : ℕ) → n ≡ length all - 1
       → slice_set all n next ≡ c.before ++ next ∷ []
-  frames_on origin seen all c next n is = last_set all c.before c.frame next n is c.frames_are
+  frames_on seen all c next n is = last_set all c.before c.frame next n is c.frames_are
 
-  pub last_is : (origin : Content) (seen : Seen) (all : List (Frame A T)) (c : CanGoOn k origin seen all) (now : Frame A T) (n : ℕ) → n ≡ length all - 1
+  pub last_is : (seen : Seen) (all : List (Frame A T)) (c : CanGoOn k seen all) (now : Frame A T) (n : ℕ) → n ≡ length all - 1
       → now ≡ slice_index_or all n now → now ≡ c.frame
-  last_is origin seen all c now n is value = last_now all c.before c.frame now n is value c.frames_are
+  last_is seen all c now n is value = last_now all c.before c.frame now n is value c.frames_are
 
   -- It is the summary of the node where the walk stands, which has a child of that number.
   module _ (number bound steps : ℕ) (old : Seen) (fs : List (Frame A T)) (stood : Option T) (going : IfSome stood (IsGoing k bound old fs)) (e : steps ≡ length fs) (summary : T)
@@ -152,14 +151,14 @@ module _ {N A T : Type 0} (k : TreeModel N A T) where
     can_reach = grind arith
 
   module _ (bound cost : ℕ) (old mid : Seen) (fs : List (Frame A T)) (f : Frame A T) (r : Ready bound cost old mid fs f) where
-    pub ready_here : Comes k (origin_of mid) mid fs f
-    ready_here = subst (λ z. Comes k z mid fs f) (sym (first_is_origin k (origin_of old) mid fs r.comes.stacked)) r.comes
+    pub ready_here : Comes k mid fs f
+    ready_here = r.comes
 
     pub ready_room : HasRoom (owed_there k f.at) (marked mid)
-    ready_room = enter_room bound (origin_of old) mid fs f r.comes (roomy_stays bound old mid r.spent.limits r.roomy) r.at_most
+    ready_room = enter_room bound mid fs f r.comes (roomy_stays bound old mid r.spent.limits r.roomy) r.at_most
 
     pub ready_mark : length mid.checkpoints < mid.usage.limits.checkpoints
-    ready_mark = mark_room bound (origin_of old) mid fs f r.comes (roomy_stays bound old mid r.spent.limits r.roomy) r.at_most
+    ready_mark = mark_room bound mid fs f r.comes (roomy_stays bound old mid r.spent.limits r.roomy) r.at_most
 
   -- A walk that stands is where its summary says.
   pub is_there : {B : Type 0} (b : B) (bound : ℕ) (seen : Seen) (fs : List (Frame A T)) (summary : T) → IsGoing k bound seen fs summary
@@ -171,8 +170,8 @@ module _ {N A T : Type 0} (k : TreeModel N A T) where
         content_is = s.content_is;
         layout_is = s.layout_is;
         room = record {
-          allows = steps_room bound (length fs) seen.usage.counts (k.owed (node_of k (origin_of seen) fs)) seen going.roomy going.at_most s.counts;
-          mark = omega (arith, going.at_most, going.roomy.checkpoints, length-stack k (origin_of seen) seen.checkpoints fs s.stacked);
+          allows = steps_room bound (length fs) seen.usage.counts (k.owed (node_of k fs)) seen going.roomy going.at_most s.counts;
+          mark = omega (arith, going.at_most, going.roomy.checkpoints, length-stack k seen.checkpoints fs s.stacked);
         };
         counts = rw (length-map fs (λ (f : Frame A T). f.number)) s.counts;
       }
@@ -188,13 +187,13 @@ module _ {N A T : Type 0} (k : TreeModel N A T) where
       → all ≡ fs ++ f ∷ [] → IsLastStep k (walked b bound seen all stood) f
   last_there b bound seen all fs f stood summary going split =
       let s = going.stands in
-      let frame = (among k (k.root (origin_of seen)) 0 s.stacked.above fs f [] (subst (AreFrames k (k.root (origin_of seen)) 0 s.stacked.above) split s.stacked.frames)).frame in
+      let frame = (among k k.root 0 s.stacked.above fs f [] (subst (AreFrames k k.root 0 s.stacked.above) split s.stacked.frames)).frame in
       record {
         before = path_of fs;
         path_is = ap path_of split ∙ path-push fs f;
         at_is = record {
           on_is = frame.on_is;
-          content_is = s.content_is ∙ ap (λ xs. k.content (node_of k (origin_of seen) xs)) split ∙ ap k.content (node-push k (origin_of seen) fs f);
+          content_is = s.content_is ∙ ap (λ xs. k.content (node_of k xs)) split ∙ ap k.content (node-push k fs f);
           layout_is = s.layout_is;
         };
         some = frame.some;
@@ -204,20 +203,17 @@ module _ {N A T : Type 0} (k : TreeModel N A T) where
   -- It has arrived.
   pub record Arrives (bound cost : ℕ) (old new : Seen) (all : List (Frame A T)) (summary : T) : Type 0 where
     pub going : IsGoing k bound new all summary
-    pub origin : origin_of new ≡ origin_of old
     pub spent : Spent (cost + summary_cost k) old new
 
-  pub arrives : (bound cost : ℕ) (old mid new : Seen) (fs all : List (Frame A T)) (f : Frame A T) (summary : T) → Ready bound cost old mid fs f → Stands k (origin_of mid) new all summary
+  pub arrives : (bound cost : ℕ) (old mid new : Seen) (fs all : List (Frame A T)) (f : Frame A T) (summary : T) → Ready bound cost old mid fs f → Stands k new all summary
       → all ≡ fs ++ f ∷ [] → Spent (summary_cost k) mid new → Arrives bound cost old new all summary
   arrives bound cost old mid new fs all f summary r s a spent =
-      let here = first_is_origin k (origin_of mid) new all s.stacked in
       record {
         going = record {
-          stands = subst (λ z. Stands k z new all summary) (sym here) s;
+          stands = s;
           at_most = omega (arith, ap length a, length-append fs (f ∷ []), r.at_most);
           roomy = roomy_stays bound old new (spent.limits ∙ r.spent.limits) r.roomy;
         };
-        origin = here ∙ first_is_origin k (origin_of old) mid fs r.comes.stacked;
         spent = spent_both cost (summary_cost k) old mid new r.spent spent;
       }
 
@@ -240,11 +236,10 @@ module _ {N A T : Type 0} (k : TreeModel N A T) where
     pub mark_there : length left < length old.checkpoints
     mark_there = omega (arith, last_index, back_at.in_range)
 
-    pub can_go_on : CanGoOn k (origin_of seen) seen left
+    pub can_go_on : CanGoOn k seen left
     can_go_on =
         let b = back_at in
-        let here = first_is_origin k (origin_of old) seen is.before b.comes.stacked in
-        subst (λ z. CanGoOn k z seen left) (sym here) (record {
+        record {
           before = is.before;
           frame = is.frame;
           frames_are = is.frames_are;
@@ -255,22 +250,20 @@ module _ {N A T : Type 0} (k : TreeModel N A T) where
           bound = bound;
           at_most = b.at_most;
           roomy = b.roomy;
-        })
+        }
 
-    pub arrives_on : (new : Seen) (next : List (Frame A T)) (summary : T) → Stands k (origin_of seen) new next summary → IsOneOn left next → Spent (k.step + summary_cost k) seen new
+    pub arrives_on : (new : Seen) (next : List (Frame A T)) (summary : T) → Stands k new next summary → IsOneOn left next → Spent (k.step + summary_cost k) seen new
         → Arrives bound ((0 + 1) * k.step) old new next summary
     arrives_on new next summary s one spent =
         let b = back_at in
         let o = one is.before is.frame is.frames_are in
-        let here = first_is_origin k (origin_of seen) new next s.stacked in
         let most : 0 + (k.step + summary_cost k) ≤ (0 + 1) * k.step + summary_cost k = omega arith in
         record {
           going = record {
-            stands = subst (λ z. Stands k z new next summary) (sym here) s;
+            stands = s;
             at_most = omega (arith, ap length o.1, length-append is.before (o.0 ∷ []), b.at_most);
             roomy = roomy_stays bound seen new spent.limits b.roomy;
           };
-          origin = here ∙ first_is_origin k (origin_of old) seen is.before b.comes.stacked;
           spent = spent_more (0 + (k.step + summary_cost k)) _ old new most (spent_both 0 (k.step + summary_cost k) old seen new b.spent spent);
         }
 
@@ -279,8 +272,8 @@ module _ {N A T : Type 0} (k : TreeModel N A T) where
   gone_down b bound cost number old new fs all f summary stood a e n =
       let path : path_of all ≡ path_of fs ++ number ∷ [] = ap path_of n ∙ path-push fs f ∙ ap (λ z. path_of fs ++ z ∷ []) e in
       let st = a.going.stands.stacked in
-      let allowed = subst (λ z. Allowed k.tree (k.root z) (path_of all)) a.origin (frames_allowed k (k.root (origin_of new)) 0 st.above all st.frames) in
-      (path, (omega (arith, a.going.at_most, length-map all (λ (h : Frame A T). h.number)), allowed), record { flash_tree = refl; bound = refl; origin = a.origin }, refl)
+      let allowed = frames_allowed k k.root 0 st.above all st.frames in
+      (path, (omega (arith, a.going.at_most, length-map all (λ (h : Frame A T). h.number)), allowed), record { flash_tree = refl; bound = refl }, refl)
 
   -- It is the summary of none, and stays.
   pub no_child : {B : Type 0} (b : B) (number bound steps : ℕ) (old : Seen) (fs : List (Frame A T)) (stood : Option T) → IfSome stood (IsGoing k bound old fs) → steps ≡ length fs
@@ -289,37 +282,37 @@ module _ {N A T : Type 0} (k : TreeModel N A T) where
   no_child b number bound steps old fs (Some summary) going e stands p = (
     λ m.
         let at_most : steps < bound = omega (arith, m.0, e, length-append (path_of fs) (number ∷ []), length-map fs (λ (f : Frame A T). f.number)) in
-        omega (arith, p summary refl at_most (node_of k (origin_of old) fs) going.stands.summary_is, allowed-last k.tree (k.root (origin_of old)) (path_of fs) number m.1),
+        omega (arith, p summary refl at_most (node_of k fs) going.stands.summary_is, allowed-last k.tree k.root (path_of fs) number m.1),
     refl,
   )
 
   -- The order of its paths.
-  climbed_to : (origin : Content) (checkpoints : List Checkpoint) (all fs : List (Frame A T)) (f g : Frame A T) → Stacked k origin checkpoints all → IsLastOpen k f all fs → g.number ≡ f.number + 1
-      → IsNextBeyond k.tree (k.root origin) (path_of all) (path_of (fs ++ g ∷ []))
-  climbed_to origin checkpoints all fs f g st last e =
-      let r = among k (k.root origin) 0 st.above fs f last.more (subst (AreFrames k (k.root origin) 0 st.above) last.split st.frames) in
+  climbed_to : (checkpoints : List Checkpoint) (all fs : List (Frame A T)) (f g : Frame A T) → Stacked k checkpoints all → IsLastOpen k f all fs → g.number ≡ f.number + 1
+      → IsNextBeyond k.tree k.root (path_of all) (path_of (fs ++ g ∷ []))
+  climbed_to checkpoints all fs f g st last e =
+      let r = among k k.root 0 st.above fs f last.more (subst (AreFrames k k.root 0 st.above) last.split st.frames) in
       let path : path_of all ≡ path_of fs ++ f.number ∷ path_of last.more = ap path_of last.split ∙ map-append (λ (h : Frame A T). h.number) fs (f ∷ last.more) in
       let new : path_of (fs ++ g ∷ []) ≡ path_of fs ++ (f.number + 1) ∷ [] = path-push fs g ∙ ap (λ z. path_of fs ++ z ∷ []) e in
-      let allowed = frames_allowed k (k.root origin) 0 st.above all st.frames in
-      let spent = frames_last k (k.tree.child (node_of k origin fs) f.number) ((0 + length fs) + 1) r.after last.more r.rest last.spent in
-      let beyond = next_beyond k.tree (k.root origin) (path_of fs) f.number (path_of last.more) (subst (Allowed k.tree (k.root origin)) path allowed) spent
-      (last.open_is (node_of k origin fs) r.frame.summary_is) in
-      subst (λ z. IsNextBeyond k.tree (k.root origin) z (path_of (fs ++ g ∷ []))) (sym path)
-      (subst (IsNextBeyond k.tree (k.root origin) (path_of fs ++ f.number ∷ path_of last.more)) (sym new) beyond)
+      let allowed = frames_allowed k k.root 0 st.above all st.frames in
+      let spent = frames_last k (k.tree.child (node_of k fs) f.number) ((0 + length fs) + 1) r.after last.more r.rest last.spent in
+      let beyond = next_beyond k.tree k.root (path_of fs) f.number (path_of last.more) (subst (Allowed k.tree k.root) path allowed) spent
+      (last.open_is (node_of k fs) r.frame.summary_is) in
+      subst (λ z. IsNextBeyond k.tree k.root z (path_of (fs ++ g ∷ []))) (sym path)
+      (subst (IsNextBeyond k.tree k.root (path_of fs ++ f.number ∷ path_of last.more)) (sym new) beyond)
 
-  pub climbed : {B : Type 0} (b : B) (bound : ℕ) (old new : Seen) (all fs next : List (Frame A T)) (f g : Frame A T) (stood : Option T) (summary : T) → Stacked k (origin_of old) old.checkpoints all
-      → IsLastOpen k f all fs → g.number ≡ f.number + 1 → next ≡ fs ++ g ∷ [] → origin_of new ≡ origin_of old
+  pub climbed : {B : Type 0} (b : B) (bound : ℕ) (old new : Seen) (all fs next : List (Frame A T)) (f g : Frame A T) (stood : Option T) (summary : T) → Stacked k old.checkpoints all
+      → IsLastOpen k f all fs → g.number ≡ f.number + 1 → next ≡ fs ++ g ∷ []
       → Climbs k (walked b bound old all stood) true (walked b bound new next (Some summary))
-  climbed b bound old new all fs next f g stood summary st last e n s = (
-    subst (λ z. IsNextBeyond k.tree (k.root (origin_of old)) (path_of all) (path_of z)) (sym n) (climbed_to (origin_of old) old.checkpoints all fs f g st last e),
-    record { flash_tree = refl; bound = refl; origin = s },
+  climbed b bound old new all fs next f g stood summary st last e n = (
+    subst (λ z. IsNextBeyond k.tree k.root (path_of all) (path_of z)) (sym n) (climbed_to old.checkpoints all fs f g st last e),
+    record { flash_tree = refl; bound = refl },
     refl,
   )
 
-  pub none_on : {B : Type 0} (b : B) (bound : ℕ) (old : Seen) (all fs : List (Frame A T)) (stood : Option T) → Stacked k (origin_of old) old.checkpoints all → AreSpent k all
+  pub none_on : {B : Type 0} (b : B) (bound : ℕ) (old : Seen) (all fs : List (Frame A T)) (stood : Option T) → Stacked k old.checkpoints all → AreSpent k all
       → Climbs k (walked b bound old all stood) false (walked {A = A} {T = T} b bound old fs None)
   none_on b bound old all fs stood st spent = (
-    none_beyond k.tree (k.root (origin_of old)) (path_of all) (frames_last k (k.root (origin_of old)) 0 st.above all st.frames spent),
-    record { flash_tree = refl; bound = refl; origin = refl },
+    none_beyond k.tree k.root (path_of all) (frames_last k k.root 0 st.above all st.frames spent),
+    record { flash_tree = refl; bound = refl },
     refl,
   )

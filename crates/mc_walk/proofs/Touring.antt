@@ -1,7 +1,7 @@
 -- The first node that a tour visits.
 use Rattle.std.proofs.Common.{◌≡◌, ◌⊎◌, ℕ, List, [], Bool, true, false, refl, sym, subst, arith}
 use Rattle.mc_tree.specs.{Tree.{Position, AtStart, IsNext}, facts.Order.{next_after_last, none_after_last, none_before_root}}
-use Rattle.mc_walk.specs.{TreeModel.{TreeModel}, Walks.{Toured, IsBeyondLast, StandsAt, StandsBeyond, Visits, Walked, Begins, Climbs, IsPath, root_of}}
+use Rattle.mc_walk.specs.{TreeModel.{TreeModel}, Walks.{Toured, IsBeyondLast, StandsAt, StandsBeyond, Visits, Walked, Begins, Climbs, IsPath}}
 use Rattle.mc_walk.specs.declared.tour.Phase.TheVariants.{Fresh, Going, Done}
 
 module _ {N A T B : Type 0} (k : TreeModel N A T) (old : Toured B) (summary : T) (new : Walked B) (begins : Begins k old.walk summary new) where
@@ -28,7 +28,7 @@ module _ {N A T B : Type 0} (k : TreeModel N A T) (old : Toured B) (new : Walked
   left_on false is c = absurd cc
   left_on true is c = (
     subst (λ p. IsNext (IsPath k old.walk) p new.path) (sym beyond.position_is)
-        (next_after_last k.tree (root_of k old.walk) old.walk.bound old.walk.path beyond.number beyond.deep new.path beyond.last c.0),
+        (next_after_last k.tree k.root old.walk.bound old.walk.path beyond.number beyond.deep new.path beyond.last c.0),
     c.1,
     refl,
     c.2,

@@ -5,11 +5,10 @@ use Rattle.mc_flash.specs.{Flash.{Content}, Geometry.{Geometry}, Usage.{Counts, 
 
 pub record TreeModel (N A T : Type 0) : Type 1 where
   pub tree : Tree N
-  -- the layout of the flash, what it contains at a node, and the node that a content is the root of
+  pub root : N
+  -- the layout of the flash, and what it contains at a node
   pub geometry : Geometry
   pub content : N → Content
-  pub root : Content → N
-  pub root_is : (c : Content) → content (root c) ≡ c
   -- the child of that number is on its way from that node
   pub IsOn : N → ℕ → A → Type 0
   pub IsSummary : N → T → Type 0
@@ -78,13 +77,10 @@ module _ {N A T : Type 0} (k : TreeModel N A T) where
       × LeaveRoom new.usage.counts (k.left at') (plus old.usage.counts (k.left at))
   ReachesNext at old (Err _) at' new = Unit {0}
 
-  -- The flash has the layout of the tree.
-  abbrev pub IsRoot : Seen → Type 0
-  IsRoot seen = seen.geometry ≡ k.geometry
-
-  -- That is the summary of the root at which the flash stands.
-  abbrev pub IsRootSummary : Seen → T → Type 0
-  IsRootSummary seen summary = k.IsSummary (k.root seen.content) summary
+  -- The flash stands at the root.
+  pub record IsRoot (seen : Seen) : Type 0 where
+    pub content_is : seen.content ≡ k.content k.root
+    pub layout_is : seen.geometry ≡ k.geometry
 
   -- The flash stands at a child on its way, where that is the summary of its parent.
   abbrev pub IsChild : A → T → Seen → Type 0

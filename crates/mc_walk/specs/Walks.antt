@@ -1,8 +1,8 @@
 -- What callers see of a walk, and how it goes on.
 use Rattle.std.specs.Prelude.{Bool, Err, IfSome, List, Ok, Option, Result, [], false, is_some, length, take, true, ℕ, ◌*◌, ◌++◌, ◌+◌, ◌<◌, ◌∷◌, ◌≡◌, ◌≢◌, ◌≤◌}
-use Rattle.mc_flash.specs.{Flash.{Content}, Usage.{HasRoom, LeaveRoom, RanOut, Seen, Spent, checkpoint_at, checkpoint_of, no_counts}}
+use Rattle.mc_flash.specs.Usage.{HasRoom, LeaveRoom, RanOut, Seen, Spent, checkpoint_of, no_counts}
 use Rattle.mc_tree.specs.{Tree.{After, AtStart, IsMember, IsNext, IsOver, Lost, Position, landed}, facts.Order.{IsNextBeyond, NoneBeyond}}
-use Rattle.mc_walk.specs.{TreeModel.{IsAt, TreeModel, summary_cost}, declared.frame.Frame.{Frame}, declared.tour.Phase.{Phase}}
+use Rattle.mc_walk.specs.{TreeModel.{IsAt, IsRoot, TreeModel, summary_cost}, declared.frame.Frame.{Frame}, declared.tour.Phase.{Phase}}
 use Rattle.mc_walk.specs.{declared.tour.Phase.TheVariants.{Broken, Done, Fresh, Going}, declared.tour.TourError.{TourError}}
 use Rattle.mc_walk.specs.inner.Stack.{IsRoomy, Stands, most_at, path_of}
 use Rattle.mc_walk.specs.declared.tour.TourError.TheVariants as errors
@@ -20,23 +20,15 @@ pub record Walked (B : Type 0) : Type 0 where
 abbrev pub walked : {A T B : Type 0} → B → ℕ → Seen → List (Frame A T) → Option T → Walked B
 walked flash_tree bound seen fs summary = record { flash_tree = flash_tree; bound = bound; seen = seen; path = path_of fs; stands = is_some summary }
 
--- The content with which it began: the first that is marked.
-abbrev pub origin_of : Seen → Content
-origin_of seen = (checkpoint_at seen 0).content
-
 -- The same walk, elsewhere.
 pub record IsSame {B : Type 0} (old new : Walked B) : Type 0 where
   pub flash_tree : new.flash_tree ≡ old.flash_tree
   pub bound : new.bound ≡ old.bound
-  pub origin : origin_of new.seen ≡ origin_of old.seen
 
 module _ {N A T B : Type 0} (k : TreeModel N A T) where
-  abbrev pub root_of : Walked B → N
-  root_of w = k.root (origin_of w.seen)
-
   -- The node at the end of its path.
   abbrev pub node_at : Walked B → N
-  node_at w = landed k.tree (root_of w) w.path
+  node_at w = landed k.tree k.root w.path
 
   -- The flash stands at that node, with that summary, and has room to find its summary once more. No more is counted than a path
   -- so long makes, and that.
@@ -51,18 +43,18 @@ module _ {N A T B : Type 0} (k : TreeModel N A T) where
   pub record IsLastStep (w : Walked B) (f : Frame A T) : Type 0 where
     pub before : List ℕ
     pub path_is : w.path ≡ before ++ f.number ∷ []
-    pub at_is : IsAt k (landed k.tree (root_of w) before) f.number f.at w.seen
-    pub some : f.number < k.tree.width (landed k.tree (root_of w) before)
-    pub parent_is : k.IsSummary (landed k.tree (root_of w) before) f.parent
+    pub at_is : IsAt k (landed k.tree k.root before) f.number f.at w.seen
+    pub some : f.number < k.tree.width (landed k.tree k.root before)
+    pub parent_is : k.IsSummary (landed k.tree k.root before) f.parent
 
   -- The paths that it can take.
   abbrev pub IsPath : Walked B → List ℕ → Type 0
-  IsPath w = IsMember k.tree (root_of w) w.bound
+  IsPath w = IsMember k.tree k.root w.bound
 
   -- From its root it goes nowhere, and that is the summary of the root.
   pub record Begins (old : Walked B) (summary : T) (new : Walked B) : Type 0 where
     pub path : new.path ≡ []
-    pub summary_is : k.IsSummary (root_of old) summary
+    pub summary_is : k.IsSummary k.root summary
     pub same : IsSame old new
     pub stands : new.stands ≡ true
 
@@ -73,8 +65,8 @@ module _ {N A T B : Type 0} (k : TreeModel N A T) where
 
   -- It went on to the next path beyond; or there is none, and the flash stays.
   abbrev pub Climbs : Walked B → Bool → Walked B → Type 0
-  Climbs old true new = IsNextBeyond k.tree (root_of old) old.path new.path × IsSame old new × (new.stands ≡ true)
-  Climbs old false new = NoneBeyond k.tree (root_of old) old.path × IsSame old new × (new.seen ≡ old.seen)
+  Climbs old true new = IsNextBeyond k.tree k.root old.path new.path × IsSame old new × (new.stands ≡ true)
+  Climbs old false new = NoneBeyond k.tree k.root old.path × IsSame old new × (new.seen ≡ old.seen)
 
   -- It went on to the next path; or there is none, and the flash stays.
   abbrev pub Advances : Walked B → Bool → Walked B → Type 0
@@ -107,7 +99,7 @@ module _ {N A T : Type 0} (k : TreeModel N A T) where
 
   -- What holds of a walk that stands at the end of its path.
   pub record IsGoing (bound : ℕ) (seen : Seen) (fs : List (Frame A T)) (summary : T) : Type 0 where
-    pub stands : Stands k (origin_of seen) seen fs summary
+    pub stands : Stands k seen fs summary
     pub at_most : length fs ≤ bound
     pub roomy : IsRoomy k bound seen
 
@@ -116,26 +108,25 @@ module _ {N A T : Type 0} (k : TreeModel N A T) where
     pub reserved : bound ≤ capacity
     pub going : IfSome summary (IsGoing bound seen fs)
 
-  -- A flash with no checkpoints, of that layout, on which nothing was done.
+  -- A flash at the root with no checkpoints, on which nothing was done.
   pub record IsClear (bound : ℕ) (seen : Seen) : Type 0 where
+    pub root : IsRoot k seen
     pub none : seen.checkpoints ≡ []
     pub counts : seen.usage.counts ≡ no_counts
-    pub layout_is : seen.geometry ≡ k.geometry
     pub roomy : IsRoomy k bound seen
 
   -- A walk at its root, of which nothing is known yet.
   pub record IsFresh {B : Type 0} (walk : Walked B) : Type 0 where
     pub path : walk.path ≡ []
+    pub root : IsRoot k walk.seen
     pub checkpoints_are : walk.seen.checkpoints ≡ checkpoint_of walk.seen ∷ []
     pub counts : walk.seen.usage.counts ≡ no_counts
-    pub layout_is : walk.seen.geometry ≡ k.geometry
     pub roomy : IsRoomy k walk.bound walk.seen
 
--- A walk of those branches and that bound, from what the flash contains.
-pub record IsOf {B : Type 0} (flash_tree : B) (bound : ℕ) (seen : Seen) (walk : Walked B) : Type 0 where
+-- A walk through that tree, with that bound.
+pub record IsOf {B : Type 0} (flash_tree : B) (bound : ℕ) (walk : Walked B) : Type 0 where
   pub flash_tree_is : walk.flash_tree ≡ flash_tree
   pub bound_is : walk.bound ≡ bound
-  pub origin : origin_of walk.seen ≡ seen.content
 
 -- What callers see of a tour, and the node that it visits next.
 

@@ -1,12 +1,13 @@
 //! What a walk goes through.
-use mc_flash::{Flash, FlashError};
+use mc_flash::Flash;
+use std::alloc::AllocError;
 
 /// A kind of tree over the contents of a flash: how one goes from a node to its children, and what is known of a node, its
 /// summary. That may be derived from the summary of the parent.
 pub trait FlashTree: Copy {
-    ghost use Rattle.std.specs.Prelude.{◌≡◌, ℕ, IfOk, IfErr, OnOk};
+    ghost use Rattle.std.specs.Prelude.{◌≡◌, ℕ, IfOk, OnOk};
     ghost use Rattle.mc_flash.specs.Usage.{Keeps, HasRoom, Spends, Stays};
-    ghost use Rattle.mc_walk.specs.TreeModel.{TreeModel, CanReach, Reaches, HasNext, ReachesNext, IsRoot, IsRootSummary, IsChild, IsChildSummary, HasWidth, owed_there, summary_cost};
+    ghost use Rattle.mc_walk.specs.TreeModel.{TreeModel, CanReach, Reaches, HasNext, ReachesNext, IsRoot, IsChild, IsChildSummary, HasWidth, owed_there, summary_cost};
 
     ghost Node: { Type 0 };
 
@@ -18,9 +19,6 @@ pub trait FlashTree: Copy {
 
     /// The name of a child among those of its node.
     type Label: Copy;
-
-    /// What is known before the walk. It spares work, and changes no answer.
-    type Known;
 
     ghost model: { Self → TreeModel Node Self.Child Self.Summary };
 
@@ -39,32 +37,29 @@ pub trait FlashTree: Copy {
         self,
         flash: &mut F,
         summary: &Self::Summary,
-    ) -> Result<Self::Child, FlashError>
+    ) -> Result<Self::Child, AllocError>
         requires { CanReach (model self) 0 summary.now (F.seen flash.old) }
         ensures reaches { Reaches (model self) 0 summary.now (F.seen flash.old) result
             (F.seen flash.new) }
         ensures keeps { OnOk result (Keeps (F.seen flash.old) (F.seen flash.new)) }
-        ensures spends { Spends (model self).step (F.seen flash.old) result (F.seen flash.new) }
-        ensures err { IfErr result (λ e. e ≡ FlashError.Memory) };
+        ensures spends { Spends (model self).step (F.seen flash.old) result (F.seen flash.new) };
 
     /// Goes from a child to the next.
-    fn next<F: Flash>(self, flash: &mut F, at: &mut Self::Child) -> Result<(), FlashError>
+    fn next<F: Flash>(self, flash: &mut F, at: &mut Self::Child) -> Result<(), AllocError>
         requires { HasNext (model self) at.old (F.seen flash.old) }
         ensures goes_on { ReachesNext (model self) at.old (F.seen flash.old) result at.new
             (F.seen flash.new) }
         ensures keeps { OnOk result (Keeps (F.seen flash.old) (F.seen flash.new)) }
-        ensures spends { Spends (model self).step (F.seen flash.old) result (F.seen flash.new) }
-        ensures err { IfErr result (λ e. e ≡ FlashError.Memory) };
+        ensures spends { Spends (model self).step (F.seen flash.old) result (F.seen flash.new) };
 
     /// The summary of the root at which the flash stands.
-    fn root<F: Flash>(self, flash: &mut F, known: &Self::Known) -> Result<Self::Summary, FlashError>
+    fn root<F: Flash>(self, flash: &mut F) -> Result<Self::Summary, AllocError>
         requires root { IsRoot (model self) (F.seen flash.old) }
         requires room { HasRoom (model self).all (F.seen flash.old) }
-        ensures gives { IfOk result (IsRootSummary (model self) (F.seen flash.old)) }
+        ensures gives { IfOk result ((model self).IsSummary (model self).root) }
         ensures stays { OnOk result (Stays (F.seen flash.old) (F.seen flash.new)) }
         ensures spends { Spends (summary_cost (model self)) (F.seen flash.old) result
-            (F.seen flash.new) }
-        ensures err { IfErr result (λ e. e ≡ FlashError.Memory) };
+            (F.seen flash.new) };
 
     /// The summary of a child on its way, where that is the summary of its parent.
     fn child<F: Flash>(
@@ -72,14 +67,12 @@ pub trait FlashTree: Copy {
         flash: &mut F,
         at: &Self::Child,
         parent: &Self::Summary,
-        known: &Self::Known,
-    ) -> Result<Self::Summary, FlashError>
+    ) -> Result<Self::Summary, AllocError>
         requires child { IsChild (model self) at.now parent.now (F.seen flash.old) }
         requires room { HasRoom (owed_there (model self) at.now) (F.seen flash.old) }
         ensures gives { IfOk result (IsChildSummary (model self) at.now parent.now (F.seen
             flash.old)) }
         ensures stays { OnOk result (Stays (F.seen flash.old) (F.seen flash.new)) }
         ensures spends { Spends (summary_cost (model self)) (F.seen flash.old) result
-            (F.seen flash.new) }
-        ensures err { IfErr result (λ e. e ≡ FlashError.Memory) };
+            (F.seen flash.new) };
 }

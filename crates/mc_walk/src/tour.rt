@@ -4,7 +4,8 @@ ghost use Rattle.mc_tree.specs.Tree.{Position};
 ghost use Rattle.mc_walk.specs.Walks.{Toured, StandsAt, StandsBeyond, Visits, Costs, IsFresh};
 
 use crate::{FlashTree, Walk};
-use mc_flash::{Flash, FlashError};
+use mc_flash::Flash;
+use std::alloc::AllocError;
 use std::marker::Model;
 
 /// How a tour stands with its walk.
@@ -29,12 +30,12 @@ pub enum TourError {
     Failed,
 }
 
-impl From<FlashError> for TourError {
+impl From<AllocError> for TourError {
     ghost use Rattle.mc_walk.specs.declared.tour.TourError.TheVariants.{Memory};
 
     ghost from_gives = { λ _ e. e ≡ Memory };
 
-    fn from(_: FlashError) -> Self {
+    fn from(_: AllocError) -> Self {
         TourError::Memory
     }
 }
@@ -84,7 +85,7 @@ impl<F: Flash, B: FlashTree> Tour<F, B> {
     /// # Errors
     ///
     /// `Memory` where the flash was refused memory; from then on always `Failed`.
-    pub fn visit(&mut self, known: &B::Known) -> Result<bool, TourError>
+    pub fn visit(&mut self) -> Result<bool, TourError>
         ensures visits { IfOk result (λ went. (position : Position (List ℕ))
             → StandsAt (B.model self.old.walk.flash_tree) self.old position
             → Visits (B.model self.old.walk.flash_tree) self.old position went self.new) }
@@ -95,13 +96,13 @@ impl<F: Flash, B: FlashTree> Tour<F, B> {
             Phase::Done => Ok(false),
             Phase::Fresh => {
                 self.phase = Phase::Broken;
-                self.walk.begin(known)?;
+                self.walk.begin()?;
                 self.phase = Phase::Going;
                 Ok(true)
             }
             Phase::Going => {
                 self.phase = Phase::Broken;
-                if !self.walk.advance(known)? {
+                if !self.walk.advance()? {
                     self.phase = Phase::Done;
                     return Ok(false);
                 }
@@ -117,7 +118,7 @@ impl<F: Flash, B: FlashTree> Tour<F, B> {
     /// # Errors
     ///
     /// `Memory` where the flash was refused memory; from then on always `Failed`.
-    pub fn leave(&mut self, known: &B::Known) -> Result<bool, TourError>
+    pub fn leave(&mut self) -> Result<bool, TourError>
         ensures visits { IfOk result (λ went. (position : Position (List ℕ))
             → StandsBeyond (B.model self.old.walk.flash_tree) self.old position
             → Visits (B.model self.old.walk.flash_tree) self.old position went self.new) }
@@ -129,7 +130,7 @@ impl<F: Flash, B: FlashTree> Tour<F, B> {
             Phase::Broken => return Err(TourError::Failed),
         }
         self.phase = Phase::Broken;
-        if !self.walk.climb(known)? {
+        if !self.walk.climb()? {
             self.phase = Phase::Done;
             return Ok(false);
         }

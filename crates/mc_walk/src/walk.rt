@@ -1,18 +1,18 @@
 //! A walk through a tree.
-ghost use Rattle.std.specs.Prelude.{◌≡◌, ◌≤◌, [], None, is_some, IfOk, IfErr, IfSome, true, false};
+ghost use Rattle.std.specs.Prelude.{◌≡◌, ◌≤◌, [], None, is_some, IfOk, IfSome, true, false};
 ghost use Rattle.std.specs.List.{slice_get};
 ghost use Rattle.mc_tree.specs.Tree.{labelled};
 ghost use Rattle.mc_flash.specs.Usage.{Spends, Spent};
 ghost use Rattle.mc_walk.specs.TreeModel.{summary_cost};
-ghost use Rattle.mc_walk.specs.Walks.{IsClear, IsFresh, IsOf, Begins, GoesDown, Climbs, Advances, Follows, IsThere, IsLastStep, root_of, child_cost, path_cost};
+ghost use Rattle.mc_walk.specs.Walks.{IsClear, IsFresh, IsOf, Begins, GoesDown, Climbs, Advances, Follows, IsThere, IsLastStep, child_cost, path_cost};
 
 use crate::FlashTree;
 use crate::child_steps::{go_to_child, parent};
 use crate::enter::{enter, next_sibling};
 use crate::frame::{Frame, leave_spent};
 use arrayvec::ArrayVec;
-use mc_flash::{Flash, FlashError};
-use std::alloc::Global;
+use mc_flash::Flash;
+use std::alloc::{AllocError, Global};
 use std::marker::Model;
 
 /// A walk depth first through a tree, over one flash. It takes its own memory at the start, and none later but through the
@@ -46,18 +46,17 @@ impl<F: Flash, B: FlashTree> Walk<F, B> {
     ///
     /// # Errors
     ///
-    /// `Memory` where an allocation failed.
+    /// Where an allocation failed.
     pub fn start(
         alloc: Global,
         flash_tree: B,
         bound: usize,
         mut flash: F,
-    ) -> Result<Walk<F, B>, FlashError>
+    ) -> Result<Walk<F, B>, AllocError>
         requires { IsClear (B.model flash_tree) bound (F.seen flash) }
-        ensures of { IfOk result (IsOf flash_tree bound (F.seen flash)) }
+        ensures of { IfOk result (IsOf flash_tree bound) }
         ensures fresh { IfOk result (IsFresh (B.model flash_tree)) }
         ensures spent { IfOk result (λ walk. Spent 0 (F.seen flash) walk.seen) }
-        ensures err { IfErr result (λ e. e ≡ FlashError.Memory) }
     {
         let frames = Vec::with_capacity(alloc, bound)?;
         flash.mark()?;
@@ -74,18 +73,17 @@ impl<F: Flash, B: FlashTree> Walk<F, B> {
     ///
     /// # Errors
     ///
-    /// `Memory` where the flash was refused memory.
-    pub fn begin(&mut self, known: &B::Known) -> Result<B::Summary, FlashError>
+    /// Where the flash was refused memory.
+    pub fn begin(&mut self) -> Result<B::Summary, AllocError>
         requires { IsFresh (B.model self.old.flash_tree) self.old }
         ensures begins { IfOk result (λ summary. Begins (B.model self.old.flash_tree) self.old
             summary
             self.new) }
         ensures spends { Spends (summary_cost (B.model self.old.flash_tree)) self.old.seen result
             self.new.seen }
-        ensures err { IfErr result (λ e. e ≡ FlashError.Memory) }
     {
         self.summary = None;
-        let summary = self.flash_tree.root(&mut self.flash, known)?;
+        let summary = self.flash_tree.root(&mut self.flash)?;
         self.summary = Some(summary);
         Ok(summary)
     }
@@ -143,7 +141,7 @@ impl<F: Flash, B: FlashTree> Walk<F, B> {
     pub fn label(&self, step: usize) -> Option<B::Label>
         requires { self.now.stands ≡ true }
         ensures { result ≡ slice_get (labelled (B.model self.now.flash_tree).tree
-            (B.label_of self.now.flash_tree) (root_of (B.model self.now.flash_tree) self.now)
+            (B.label_of self.now.flash_tree) (B.model self.now.flash_tree).root
             self.now.path) step }
     {
         let frame = self.frames.get(step)?;
@@ -168,9 +166,9 @@ impl<F: Flash, B: FlashTree> Walk<F, B> {
     ///
     /// # Errors
     ///
-    /// `Memory` where the flash was refused memory; then the walk stands nowhere.
+    /// Where the flash was refused memory; then the walk stands nowhere.
     #[inline]
-    pub fn go_down(&mut self, number: u32, known: &B::Known) -> Result<bool, FlashError>
+    pub fn go_down(&mut self, number: u32) -> Result<bool, AllocError>
         requires { self.old.stands ≡ true }
         ensures step { IfOk result (λ went. GoesDown (B.model self.old.flash_tree) number
             self.old went
@@ -178,7 +176,6 @@ impl<F: Flash, B: FlashTree> Walk<F, B> {
         ensures spends { Spends (child_cost (B.model self.old.flash_tree) number) self.old.seen
             result
             self.new.seen }
-        ensures err { IfErr result (λ e. e ≡ FlashError.Memory) }
     {
         let Some(parent) = parent(
             self.flash_tree,
@@ -192,13 +189,7 @@ impl<F: Flash, B: FlashTree> Walk<F, B> {
         self.summary = None;
         let at = go_to_child(self.flash_tree, &mut self.flash, &parent, number)?;
         let frame = Frame { at, number, parent };
-        let summary = enter(
-            self.flash_tree,
-            &mut self.flash,
-            &mut self.frames,
-            frame,
-            known,
-        )?;
+        let summary = enter(self.flash_tree, &mut self.flash, &mut self.frames, frame)?;
         self.summary = Some(summary);
         Ok(true)
     }
@@ -207,16 +198,15 @@ impl<F: Flash, B: FlashTree> Walk<F, B> {
     ///
     /// # Errors
     ///
-    /// `Memory` where the flash was refused memory; then the walk stands nowhere.
+    /// Where the flash was refused memory; then the walk stands nowhere.
     #[tactic(auto, using(mc_flash::specs::facts::Spends::ran_out_later, mc_flash::specs::facts::Spends::spent_back))]
     #[inline]
-    pub fn climb(&mut self, known: &B::Known) -> Result<bool, FlashError>
+    pub fn climb(&mut self) -> Result<bool, AllocError>
         requires { self.old.stands ≡ true }
         ensures step { IfOk result (λ went. Climbs (B.model self.old.flash_tree) self.old went
             self.new) }
         ensures spends { Spends (child_cost (B.model self.old.flash_tree) 0) self.old.seen result
             self.new.seen }
-        ensures err { IfErr result (λ e. e ≡ FlashError.Memory) }
     {
         self.summary = None;
         if !leave_spent(self.flash_tree, &mut self.frames) {
@@ -224,7 +214,7 @@ impl<F: Flash, B: FlashTree> Walk<F, B> {
         }
         // The checkpoint of the last frame stands after that of the root and those of the frames below it.
         self.flash.back_to(self.frames.len());
-        let summary = next_sibling(self.flash_tree, &mut self.flash, &mut self.frames, known)?;
+        let summary = next_sibling(self.flash_tree, &mut self.flash, &mut self.frames)?;
         self.summary = Some(summary);
         Ok(true)
     }
@@ -233,21 +223,20 @@ impl<F: Flash, B: FlashTree> Walk<F, B> {
     ///
     /// # Errors
     ///
-    /// `Memory` where the flash was refused memory; then the walk stands nowhere.
-    pub fn advance(&mut self, known: &B::Known) -> Result<bool, FlashError>
+    /// Where the flash was refused memory; then the walk stands nowhere.
+    pub fn advance(&mut self) -> Result<bool, AllocError>
         requires { self.old.stands ≡ true }
         ensures step { IfOk result (λ went. Advances (B.model self.old.flash_tree) self.old went
             self.new) }
         ensures spends { Spends (child_cost (B.model self.old.flash_tree) 0) self.old.seen result
             self.new.seen }
-        ensures err { IfErr result (λ e. e ≡ FlashError.Memory) }
     {
         // Reading a field gives the prover what holds of all of them.
         let _bound = self.bound;
-        if self.go_down(0, known)? {
+        if self.go_down(0)? {
             return Ok(true);
         }
-        let went = self.climb(known)?;
+        let went = self.climb()?;
         Ok(went)
     }
 
@@ -255,20 +244,19 @@ impl<F: Flash, B: FlashTree> Walk<F, B> {
     ///
     /// # Errors
     ///
-    /// `Memory` where the flash was refused memory; then the walk stands nowhere.
-    pub fn follow(&mut self, path: &[u32], known: &B::Known) -> Result<bool, FlashError>
+    /// Where the flash was refused memory; then the walk stands nowhere.
+    pub fn follow(&mut self, path: &[u32]) -> Result<bool, AllocError>
         requires { self.old.stands ≡ true }
         ensures step { IfOk result (λ went. Follows (B.model self.old.flash_tree) path.now self.old
             went self.new) }
         ensures spends { Spends (path_cost (B.model self.old.flash_tree) path.now) self.old.seen
             result
             self.new.seen }
-        ensures err { IfErr result (λ e. e ≡ FlashError.Memory) }
     {
         // Reading a field gives the prover what holds of all of them.
         let _bound = self.bound;
         for number in path {
-            if !self.go_down(*number, known)? {
+            if !self.go_down(*number)? {
                 return Ok(false);
             }
         }

@@ -4,20 +4,19 @@ use Rattle.std.proofs.Common.{refl, sym, ap, subst, ◌∙◌}
 use Rattle.mc_tree.specs.Tree.{IsMember, RoundNode, landed, round_one}
 use Rattle.mc_tree.specs.facts.Existence as existence
 use Rattle.mc_tree.specs.{facts.Existence.{AreRows, all_from, all_rest}, facts.Order.{pairs_in_order}}
-use Rattle.mc_flash.specs.{Flash.{Content}, Geometry.{Geometry}}
-use Rattle.mc_trailer.specs.declared.tables.Rules.{Rules}
-use Rattle.mc_boot.specs.{Restart.{confirmed_if}, Outcome.{Report, outcome_of, left_by}, facts.Run.{outcome_defined}, Plan.{PowerOn, again, power_on}}
+use Rattle.mc_flash.specs.Flash.{Content}
+use Rattle.mc_boot.specs.{Restart.{confirmed_if}, Outcome.{Report, outcome_of, left_by}, facts.Run.{outcome_defined}, Plan.{PowerOn, again}}
 use Rattle.mc_explore.specs.{Pages.{IsLawful}, Schedules.{IsReplayed}, Subject.{are_lawful, rows_of}}
 use Rattle.mc_campaign.specs.{inner.TwoRounds.{began_at, cuts_along, later_from, rounds}, Campaigns.{Precedes, in_round, AreReplayed}}
 use Rattle.mc_campaign.specs.Rows.{IsRest, IsRow, campaigns, State, ShownRow, HasOutcomes, at_start, end_by}
 use Rattle.mc_campaign.specs.facts.Paths.{listed_along, path_of, replayed_at, same_order, some_same}
 
 -- What the uncut boot from a flash comes to, and how a path ends that leads to a node.
-abbrev pub report_from : Rules → Geometry → Content → Report
-report_from r g s = (outcome_defined (power_on r g s)).0
+abbrev pub report_from : PowerOn → Report
+report_from s = (outcome_defined s).0
 
-abbrev pub end_from : Rules → Geometry → Bool → RoundNode Content → Report
-end_from r g confirms p = end_by (report_from r g (began_at p)) (report_from r g (later_from r g confirms p))
+abbrev pub end_from : Bool → RoundNode PowerOn → Report
+end_from confirms p = end_by (report_from (began_at p)) (report_from (later_from confirms p))
 
 -- ---- a campaign has one row
 
@@ -51,43 +50,40 @@ module _ (start : PowerOn) (confirms : Bool) where
       summary_is x.campaign y.campaign x.first y.first x.second y.second e one two
 
   -- The row of a path: its campaign, and what the boots come to from the node at its end.
-  abbrev pub node_at : List ℕ → RoundNode Content
-  node_at path = landed (rounds start.rules start.geometry confirms) (round_one start.content) path
+  abbrev pub node_at : List ℕ → RoundNode PowerOn
+  node_at path = landed (rounds confirms) (round_one start) path
 
   abbrev pub row_at : List ℕ → ShownRow
   row_at path = record {
-    campaign = cuts_along start.rules start.geometry confirms start.content path;
-    first = report_from start.rules start.geometry (began_at (node_at path));
-    second = report_from start.rules start.geometry (later_from start.rules start.geometry confirms (node_at path));
+    campaign = cuts_along confirms start path;
+    first = report_from (began_at (node_at path));
+    second = report_from (later_from confirms (node_at path));
   }
 
-  has_outcomes : (bound : ℕ) (path : List ℕ) → IsMember (rounds start.rules start.geometry confirms) (round_one start.content) bound path → HasOutcomes start confirms (row_at path)
+  has_outcomes : (bound : ℕ) (path : List ℕ) → IsMember (rounds confirms) (round_one start) bound path → HasOutcomes start confirms (row_at path)
   has_outcomes bound path m =
-      replayed_at start.rules start.geometry confirms start.content bound path (row_at path).campaign (row_at path).first (row_at path).second (record { member = m; cuts_are = refl })
-      (outcome_defined (again start (began_at (node_at path)))).1 (outcome_defined (again start (later_from start.rules start.geometry confirms (node_at path)))).1
+      replayed_at confirms start bound path (row_at path).campaign (row_at path).first (row_at path).second (record { member = m; cuts_are = refl })
+      (outcome_defined (began_at (node_at path))).1 (outcome_defined (later_from confirms (node_at path))).1
 
-  are_rows : (bound : ℕ) → AreRows Precedes pairs_in_order (λ row. row.campaign) (IsRow start confirms bound) (rounds start.rules start.geometry confirms) (round_one start.content) bound row_at
+  are_rows : (bound : ℕ) → AreRows Precedes pairs_in_order (λ row. row.campaign) (IsRow start confirms bound) (rounds confirms) (round_one start) bound row_at
   are_rows bound =
-      let r = start.rules in
-      let g = start.geometry in
-      let s = start.content in
       record {
-        in_order = λ l m i j before. (same_order r g confirms s bound l m _ _ (record { member = i; cuts_are = refl }) (record { member = j; cuts_are = refl })).1 before;
-        is_row = λ l i. record { listed = (listed_along r g confirms s bound l i).0; outcome = has_outcomes bound l i };
+        in_order = λ l m i j before. (same_order confirms start bound l m _ _ (record { member = i; cuts_are = refl }) (record { member = j; cuts_are = refl })).1 before;
+        is_row = λ l i. record { listed = (listed_along confirms start bound l i).0; outcome = has_outcomes bound l i };
         only = λ row is.
-            let p = path_of r g confirms s bound row.campaign is.listed in
+            let p = path_of confirms start bound row.campaign is.listed in
             (p.0, p.1.member, same_row row (row_at p.0) is.outcome (has_outcomes bound p.0 p.1.member) (sym p.1.cuts_are));
       }
 
   -- The rows from the start, as those of all paths.
-  pub all_rows : (bound : ℕ) → IsRest (at_start start confirms bound) (map row_at (all_from (rounds start.rules start.geometry confirms) bound (round_one start.content)))
+  pub all_rows : (bound : ℕ) → IsRest (at_start start confirms bound) (map row_at (all_from (rounds confirms) bound (round_one start)))
   all_rows bound =
-      all_rest Precedes pairs_in_order (λ row. row.campaign) (IsRow start confirms bound) (rounds start.rules start.geometry confirms) (round_one start.content) bound row_at (are_rows bound)
+      all_rest Precedes pairs_in_order (λ row. row.campaign) (IsRow start confirms bound) (rounds confirms) (round_one start) bound row_at (are_rows bound)
 
 pub some_rest : (state : State) → (rows : List ShownRow) × IsRest state rows
 some_rest state =
-    existence.some_rest Precedes pairs_in_order (λ row. row.campaign) (IsRow state.start state.choice state.bound) (rounds state.start.rules state.start.geometry state.choice)
-    (round_one state.start.content) state.bound (row_at state.start state.choice) (are_rows state.start state.choice state.bound) state.position
+    existence.some_rest Precedes pairs_in_order (λ row. row.campaign) (IsRow state.start state.choice state.bound) (rounds state.choice)
+    (round_one state.start) state.bound (row_at state.start state.choice) (are_rows state.start state.choice state.bound) state.position
 
 pub campaigns_are_lawful : IsLawful (rows_of campaigns)
 campaigns_are_lawful = are_lawful campaigns pairs_in_order some_rest

@@ -1,12 +1,11 @@
 -- The tree of two rounds of boots, and how a walk goes through it.
 use Rattle.std.proofs.Common.{arith, subst, sym}
-use Rattle.std.specs.Prelude.{Bool, List, length, refl, ℕ, ◌-◌, ◌<◌, ◌≡◌, ◌≤◌}
-use Rattle.mc_boot.specs.{Boot.{left_of, progress}, Outcome.{left_by, ops_of}, Plan.{PowerOn, power_on}, Restart.{confirmed_if, one_write}}
+use Rattle.std.specs.Prelude.{Bool, List, length, ℕ, ◌-◌, ◌<◌, ◌≡◌, ◌≤◌}
+use Rattle.mc_boot.specs.{Boot.{left_of, progress}, Outcome.{left_by, ops_of}, Plan.{PowerOn, again}, Restart.{confirmed_if, one_write}}
 use Rattle.mc_boot.specs.declared.boot.Boot.{Boot}
-use Rattle.mc_campaign.specs.{declared.campaign.Round.{Round}, declared.rounds.Both.{Both}, declared.rounds.ChildBoot.{ChildBoot}}
-use Rattle.mc_explore.specs.{declared.one_round.Summary.{Summary}, inner.OneRound.{HasMade, IsSummary, boots, content_or, most_of}}
-use Rattle.mc_flash.specs.{Flash.{Content}, Geometry.{Geometry}, Usage.{Counts, LeaveRoom, no_counts, plus}}
-use Rattle.mc_trailer.specs.declared.tables.Rules.{Rules}
+use Rattle.mc_campaign.specs.{declared.campaign.Round.{Round}, declared.rounds.Both.{Both}, declared.rounds.ChildBoot.{ChildBoot}, declared.rounds.TwoRounds.{TwoRounds}}
+use Rattle.mc_explore.specs.{declared.one_round.Summary.{Summary}, inner.OneRound.{begins, boots, content_or, most_of, one_round}}
+use Rattle.mc_flash.specs.Usage.{Counts, LeaveRoom, no_counts, plus}
 use Rattle.mc_tree.specs.{Tree.{RoundNode, Tree, round_one, labels, round_two, two_rounds}, facts.Rounds.{child_second}}
 use Rattle.mc_walk.specs.TreeModel.{TreeModel}
 use Rattle.mc_campaign.specs.declared.campaign.Round.TheVariants as rounds_of
@@ -15,117 +14,121 @@ use Rattle.mc_campaign.specs.declared.rounds.ChildBoot.TheVariants as child_boot
 
 -- The tree of two rounds of boots that are cut.
 
--- Where the second round begins if the uncut boot from s ends the first.
-unfoldable pub second_start : Rules → Geometry → Bool → Content → Content
-second_start r g confirms s = confirmed_if confirms g (content_or s (left_by (power_on r g s)))
+-- Where the second round begins if the uncut boot from x ends the first.
+unfoldable pub second_start : Bool → PowerOn → PowerOn
+second_start confirms x = again x (confirmed_if confirms x.geometry (content_or x.content (left_by x)))
 
 -- A boot of the first round can be cut before each operation that it makes uncut, and so can then the one that begins the
 -- second round after it.
-abbrev pub rounds : Rules → Geometry → Bool → Tree (RoundNode Content)
-rounds r g confirms = two_rounds (boots r g) (second_start r g confirms)
+abbrev pub rounds : Bool → Tree (RoundNode PowerOn)
+rounds confirms = two_rounds boots (second_start confirms)
 
 -- The cuts along a path, each with its round.
-abbrev pub cuts_along : Rules → Geometry → Bool → Content → List ℕ → List (ℕ × ℕ)
-cuts_along r g confirms s path = labels (boots r g) (second_start r g confirms) (round_one s) path
+abbrev pub cuts_along : Bool → PowerOn → List ℕ → List (ℕ × ℕ)
+cuts_along confirms x path = labels boots (second_start confirms) (round_one x) path
 
 -- A path of at most so many steps, and the campaign of the cuts along it.
 pub record IsPathOf (x : PowerOn) (confirms : Bool) (bound : ℕ) (path : List ℕ) (c : List (ℕ × ℕ)) : Type 0 where
-  pub member : tree.IsMember (rounds x.rules x.geometry confirms) (round_one x.content) bound path
-  pub cuts_are : cuts_along x.rules x.geometry confirms x.content path ≡ c
+  pub member : tree.IsMember (rounds confirms) (round_one x) bound path
+  pub cuts_are : cuts_along confirms x path ≡ c
 
 -- The tree of two rounds of boots, as a walk goes through it.
 
-abbrev pub content_at : RoundNode Content → Content
-content_at (round_one s) = s
-content_at (round_two began s) = s
+-- What the last boot begins with.
+abbrev pub boot_at : RoundNode PowerOn → PowerOn
+boot_at (round_one x) = x
+boot_at (round_two began x) = x
 
-abbrev pub round_at : RoundNode Content → Round
-round_at (round_one s) = rounds_of.First
-round_at (round_two began s) = rounds_of.Second
+abbrev pub round_at : RoundNode PowerOn → Round
+round_at (round_one x) = rounds_of.First
+round_at (round_two began x) = rounds_of.Second
 
--- The flash from which the last boot of the first round goes.
-abbrev pub began_at : RoundNode Content → Content
-began_at (round_one s) = s
-began_at (round_two began s) = began
+-- What the last boot of the first round begins with.
+abbrev pub began_at : RoundNode PowerOn → PowerOn
+began_at (round_one x) = x
+began_at (round_two began x) = began
+
+-- What the boot begins with that is cut at the children in the second round.
+abbrev pub later_from : Bool → RoundNode PowerOn → PowerOn
+later_from confirms (round_one x) = second_start confirms x
+later_from confirms (round_two began x) = x
+
+-- The child of that number is one in the second round, and its number among those.
+abbrev pub IsLater : RoundNode PowerOn → ℕ → Type 0
+IsLater (round_one x) i = length (ops_of x) ≤ i
+IsLater (round_two began x) i = Unit {0}
+
+abbrev pub later_number : RoundNode PowerOn → ℕ → ℕ
+later_number (round_one x) i = i - length (ops_of x)
+later_number (round_two began x) i = i
 
 -- What both rounds count at most, with the write between them.
-abbrev pub most_of_both : Rules → Geometry → Counts
-most_of_both r g = plus (most_of r g) (plus one_write (most_of r g))
+abbrev pub most_of_both : PowerOn → Counts
+most_of_both start = plus (most_of start) (plus one_write (most_of start))
 
 -- What is counted at most until the rounds of a node are over.
-abbrev pub owed_at : Rules → Geometry → RoundNode Content → Counts
-owed_at r g (round_one s) = most_of_both r g
-owed_at r g (round_two began s) = most_of r g
+abbrev pub owed_at : PowerOn → RoundNode PowerOn → Counts
+owed_at start (round_one x) = most_of_both start
+owed_at start (round_two began x) = most_of start
 
-pub owed_all : (r : Rules) (g : Geometry) (p : RoundNode Content) → LeaveRoom no_counts (owed_at r g p) (most_of_both r g)
-owed_all r g (round_one s) = record { entries = omega arith; saved = omega arith }
-owed_all r g (round_two began s) = record { entries = omega arith; saved = omega arith }
+pub owed_all : (start : PowerOn) (p : RoundNode PowerOn) → LeaveRoom no_counts (owed_at start p) (most_of_both start)
+owed_all start (round_one x) = record { entries = omega arith; saved = omega arith }
+owed_all start (round_two began x) = record { entries = omega arith; saved = omega arith }
 
 -- And until those of a child on its way are.
-abbrev pub left_of_child_boot : Rules → Geometry → ChildBoot → Counts
-left_of_child_boot r g (child_boots.First boot ops later) = plus (left_of g (progress boot)) (plus one_write (most_of r g))
-left_of_child_boot r g (child_boots.Second boot) = left_of g (progress boot)
+abbrev pub left_of_child_boot : PowerOn → ChildBoot → Counts
+left_of_child_boot start (child_boots.First boot ops later) = plus (left_of start.geometry (progress boot)) (plus one_write (most_of start))
+left_of_child_boot start (child_boots.Second boot) = left_of start.geometry (progress boot)
 
-module _ (r : Rules) (g : Geometry) (confirms : Bool) where
-  -- The flash whose boot is cut at the children in the second round.
-  abbrev pub later_from : RoundNode Content → Content
-  later_from (round_one s) = second_start r g confirms s
-  later_from (round_two began s) = s
-
-  -- The child of that number is one in the second round, and its number among those.
-  abbrev pub IsLater : RoundNode Content → ℕ → Type 0
-  IsLater (round_one s) i = length (ops_of (power_on r g s)) ≤ i
-  IsLater (round_two began s) i = Unit {0}
-
-  abbrev pub later_number : RoundNode Content → ℕ → ℕ
-  later_number (round_one s) i = i - length (ops_of (power_on r g s))
-  later_number (round_two began s) i = i
-
+module _ (start : PowerOn) (confirms : Bool) where
   -- A child in the first round is on its way: how many operations its boot makes uncut is known, and the summary of where the
   -- second round begins after it.
-  pub record IsOnFirst (s : Content) (i : ℕ) (boot : Boot) (ops : ℕ) (later : Summary) : Type 0 where
-    pub early : i < length (ops_of (power_on r g s))
-    pub made : HasMade (power_on r g s) i boot
-    pub ops_is : ops ≡ length (ops_of (power_on r g s))
-    pub later_is : IsSummary (power_on r g (second_start r g confirms s)) later
+  pub record IsOnFirst (x : PowerOn) (i : ℕ) (boot : Boot) (ops : ℕ) (later : Summary) : Type 0 where
+    pub early : i < length (ops_of x)
+    pub made : (one_round start).IsOn x i boot
+    pub ops_is : ops ≡ length (ops_of x)
+    pub later_is : (one_round start).IsSummary (second_start confirms x) later
 
   -- A child of that number is on that way.
-  abbrev pub IsChildBoot : ChildBoot → RoundNode Content → ℕ → Type 0
-  IsChildBoot (child_boots.First boot ops later) (round_one s) i = IsOnFirst s i boot ops later
-  IsChildBoot (child_boots.First boot ops later) (round_two began s) i = ⊥
-  IsChildBoot (child_boots.Second boot) p i = IsLater p i × HasMade (power_on r g (later_from p)) (later_number p i) boot
+  abbrev pub IsChildBoot : ChildBoot → RoundNode PowerOn → ℕ → Type 0
+  IsChildBoot (child_boots.First boot ops later) (round_one x) i = IsOnFirst x i boot ops later
+  IsChildBoot (child_boots.First boot ops later) (round_two began x) i = ⊥
+  IsChildBoot (child_boots.Second boot) p i = IsLater p i × (one_round start).IsOn (later_from confirms p) (later_number p i) boot
 
   -- The summary of a node: its round, the last boot of the first round, and the boot of the second.
-  pub record AreSummaries (p : RoundNode Content) (both : Both) : Type 0 where
+  pub record AreSummaries (p : RoundNode PowerOn) (both : Both) : Type 0 where
     pub round_is : both.round ≡ round_at p
-    pub first_is : IsSummary (power_on r g (began_at p)) both.first
-    pub second_is : IsSummary (power_on r g (later_from p)) both.second
+    pub first_is : (one_round start).IsSummary (began_at p) both.first
+    pub second_is : (one_round start).IsSummary (later_from confirms p) both.second
 
-  pub owed_more : (p : RoundNode Content) (i : ℕ) (child_boot : ChildBoot) → IsChildBoot child_boot p i
-      → LeaveRoom no_counts (owed_at r g (tree.two_rounds_child (boots r g) (second_start r g confirms) p i)) (plus (left_of_child_boot r g child_boot) (most_of r g))
+  pub owed_more : (p : RoundNode PowerOn) (i : ℕ) (child_boot : ChildBoot) → IsChildBoot child_boot p i
+      → LeaveRoom no_counts (owed_at start ((rounds confirms).child p i)) (plus (left_of_child_boot start child_boot) (most_of start))
   owed_more p i (child_boots.First boot ops later) on =
-      let all = owed_all r g (tree.two_rounds_child (boots r g) (second_start r g confirms) p i) in
+      let all = owed_all start ((rounds confirms).child p i) in
       record { entries = omega (arith, all.entries); saved = omega (arith, all.saved) }
-  owed_more (round_one s) i (child_boots.Second boot) on =
-      subst (λ q. LeaveRoom no_counts (owed_at r g q) (plus (left_of g (progress boot)) (most_of r g)))
-      (sym (child_second (boots r g) (second_start r g confirms) s i on.0)) (record { entries = omega arith; saved = omega arith })
-  owed_more (round_two began s) i (child_boots.Second boot) on = record { entries = omega arith; saved = omega arith }
+  owed_more (round_one x) i (child_boots.Second boot) on =
+      subst (λ q. LeaveRoom no_counts (owed_at start q) (plus (left_of start.geometry (progress boot)) (most_of start)))
+      (sym (child_second boots (second_start confirms) x i on.0)) (record { entries = omega arith; saved = omega arith })
+  owed_more (round_two began x) i (child_boots.Second boot) on = record { entries = omega arith; saved = omega arith }
 
   -- From one child to the next there is one operation, and between the rounds a write more.
-  abbrev pub two_rounds_model : TreeModel (RoundNode Content) ChildBoot Both
+  abbrev pub two_rounds_model : TreeModel (RoundNode PowerOn) ChildBoot Both
   two_rounds_model = record {
-    tree = rounds r g confirms;
-    geometry = g;
-    content = content_at;
-    root = λ s. round_one s;
-    root_is = λ s. refl;
+    tree = rounds confirms;
+    root = round_one start;
+    geometry = start.geometry;
+    content = λ p. (boot_at p).content;
     IsOn = λ p i child_boot. IsChildBoot child_boot p i;
     IsSummary = AreSummaries;
     step = 2;
-    owed = owed_at r g;
-    all = most_of_both r g;
-    all_is = owed_all r g;
-    left = left_of_child_boot r g;
-    most = most_of r g;
+    owed = owed_at start;
+    all = most_of_both start;
+    all_is = owed_all start;
+    left = left_of_child_boot start;
+    most = most_of start;
     most_is = λ p i child_boot on some. owed_more p i child_boot on;
   }
+
+-- The tree that a value stands for.
+abbrev pub model_of : TwoRounds → TreeModel (RoundNode PowerOn) ChildBoot Both
+model_of t = two_rounds_model (begins t.one_round) t.confirms

@@ -1,25 +1,22 @@
 -- A walk through two rounds, along the path of a campaign.
 use Rattle.std.specs.Prelude.{Bool, List, Option, Some, false, true, ℕ, ◌<◌, ◌↔◌, ◌≡◌}
 use Rattle.mc_boot.specs.Plan.{PowerOn}
-use Rattle.mc_campaign.specs.{Campaigns.{IsMember}, declared.rounds.TwoRounds.{TwoRounds}, inner.TwoRounds.{IsPathOf, rounds, second_start, two_rounds_model}}
+use Rattle.mc_campaign.specs.{Campaigns.{IsMember}, declared.rounds.TwoRounds.{TwoRounds}, inner.TwoRounds.{IsPathOf, model_of, rounds, second_start}}
 use Rattle.mc_explore.specs.inner.OneRound.{begins, boots}
-use Rattle.mc_flash.specs.{Flash.{Content}, Geometry.{Geometry}}
-use Rattle.mc_trailer.specs.declared.tables.Rules.{Rules}
 use Rattle.mc_tree.specs.Tree.{RoundNode, label}
-use Rattle.mc_walk.specs.Walks.{IsPath, IsSame, Walked, origin_of}
+use Rattle.mc_walk.specs.Walks.{IsPath, IsSame, Walked}
 
 -- The start of a walk.
 abbrev pub begun_of : Walked TwoRounds → PowerOn
-begun_of w = begins w.flash_tree.one_round (origin_of w.seen)
+begun_of w = begins w.flash_tree.one_round
 
--- The kind of tree that a walk goes through, and the paths of a walk.
+-- The paths of a walk.
 abbrev pub IsPathIn : Walked TwoRounds → List ℕ → Type 0
-IsPathIn w = IsPath (two_rounds_model w.flash_tree.one_round.rules w.flash_tree.one_round.layout w.flash_tree.confirms) w
+IsPathIn w = IsPath (model_of w.flash_tree) w
 
 -- Of the children of a node that number is the one at the cut; without a number there is none.
-abbrev pub HasChildOf : Rules → Geometry → Bool → RoundNode Content → ℕ × ℕ → Option ℕ → Type 0
-HasChildOf r g confirms p cut number =
-    (i : ℕ) → i < (rounds r g confirms).width p → label (boots r g) (second_start r g confirms) p i ≡ cut ↔ number ≡ Some i
+abbrev pub HasChildOf : Bool → RoundNode PowerOn → ℕ × ℕ → Option ℕ → Type 0
+HasChildOf confirms p cut number = (i : ℕ) → i < (rounds confirms).width p → label boots (second_start confirms) p i ≡ cut ↔ number ≡ Some i
 
 -- From its root a walk went along the path of a campaign; or that is none of those to go through.
 abbrev pub FollowsCampaign : Walked TwoRounds → List (ℕ × ℕ) → Bool → Walked TwoRounds → Type 0

@@ -12,8 +12,8 @@ use crate::explorable::Explorable;
 use crate::verdict::{Asked, right_if_asked, write_lines};
 use clap::ArgMatches;
 use mc_explore::{
-    CensusOf, Countable, Expectation, RightsOf, Start, each_boots, take_census, take_rights,
-    write_census,
+    CensusOf, Countable, Expectation, OfStart, RightsOf, Start, each_boots, take_census,
+    take_rights, write_census,
 };
 use mc_flash::JournalFlash;
 use mc_options::{Refusal, census_options, flash_options, read_start};
@@ -23,7 +23,7 @@ use std::rt::Files;
 
 /// A census that the words ask for.
 #[derive(Drop)]
-struct Wanted<C: Copy> {
+pub struct Wanted<C: Copy> {
     start: Start,
     /// What is chosen besides the start.
     choice: C,
@@ -46,9 +46,9 @@ struct Counts<K> {
 /// # Errors
 ///
 /// `Explore` where memory failed.
-fn rights_if<X: Countable>(
+fn rights_if<'a, X: OfStart<'a> + Countable>(
     alloc: Global,
-    start: &Start,
+    start: &'a Start,
     cuts: u8,
     chosen: X::Choice,
     expectation: &Option<Expectation>,
@@ -67,7 +67,7 @@ fn rights_if<X: Countable>(
 /// # Errors
 ///
 /// `Source`, `Layout`, the numbers and `Version` of the words; what `read_start` refuses.
-fn read<X: Explorable, F: Files>(
+pub fn read<X: Explorable, F: Files>(
     files: &F,
     alloc: Global,
     arguments: &ArgMatches<'_>,
@@ -96,7 +96,10 @@ fn read<X: Explorable, F: Files>(
 /// # Errors
 ///
 /// `Expectation`; `Explore` where memory failed.
-fn count<X: Countable>(alloc: Global, wanted: &Wanted<X::Choice>) -> Result<Counts<X::Key>, Refusal>
+fn count<'a, X: OfStart<'a> + Countable>(
+    alloc: Global,
+    wanted: &'a Wanted<X::Choice>,
+) -> Result<Counts<X::Key>, Refusal>
     requires { wanted.now.cuts ≤ 16 }
     ensures { IfOk result (AreCounts X.subject wanted.now) }
 {
@@ -114,16 +117,16 @@ fn count<X: Countable>(alloc: Global, wanted: &Wanted<X::Choice>) -> Result<Coun
 ///
 /// # Errors
 ///
-/// Those of `read` and `count`; `Explore` where the output cannot be written. With `--all-boot` also `NotAllBoot` where one does not end
+/// Those of `count`; `Explore` where the output cannot be written. With `--all-boot` also `NotAllBoot` where one does not end
 /// in a boot, and with `--all-right` `NotAllRight` where one is not right; the output is written then.
-pub fn run<X: Explorable + Countable, F: Files, O: Write>(
-    files: &F,
+pub fn run<'a, X: Explorable + OfStart<'a> + Countable, O: Write>(
+    wanted: &'a Wanted<X::Choice>,
     alloc: Global,
-    arguments: &ArgMatches<'_>,
     out: &mut O,
-) -> Result<(), Refusal> {
-    let wanted = read::<X, F>(files, alloc, arguments)?;
-    let counts = count::<X>(alloc, &wanted)?;
+) -> Result<(), Refusal>
+    requires { wanted.now.cuts ≤ 16 }
+{
+    let counts = count::<X>(alloc, wanted)?;
     write_census::<X, O>(&counts.census, out)?;
     write_lines::<X, O>(&counts.rights, out)?;
     judge::<X>(&counts, &wanted.asked)

@@ -16,8 +16,8 @@ use crate::verdict::{Asked, right_if_asked, write_lines};
 use clap::ArgMatches;
 use mc_boot::ImageId;
 use mc_explore::{
-    Expectation, RightsOf, Start, TallyOf, TreeExplorer, all_boot, survey_rows, write_rows,
-    write_tally,
+    Expectation, OfStart, RightsOf, Start, TallyOf, TreeExplorer, all_boot, survey_rows,
+    write_rows, write_tally,
 };
 use mc_flash::JournalFlash;
 use mc_options::{
@@ -29,7 +29,7 @@ use std::rt::Files;
 
 /// An exploration that the options ask for: where it starts, and the rows that are wanted of it.
 #[derive(Drop)]
-struct Exploration<C: Copy, U: Copy, K: Copy> {
+pub struct Exploration<C: Copy, U: Copy, K: Copy> {
     start: Start,
     /// What is chosen besides the start.
     choice: C,
@@ -108,7 +108,7 @@ impl<C: Copy, U: Copy, K: Copy> Exploration<C, U, K> {
 /// # Errors
 ///
 /// `Explore` where the cursor or the key does not serve here, or an allocation failed.
-fn explorer<'a, X: Explorable>(
+fn explorer<'a, X: Explorable + OfStart<'a>>(
     exploration: &'a Exploration<X::Choice, X::Cursor, X::Key>,
     alloc: Global,
 ) -> Result<TreeExplorer<'a, JournalFlash, X>, Refusal>
@@ -131,8 +131,8 @@ fn explorer<'a, X: Explorable>(
 /// # Errors
 ///
 /// Those of `explorer`, and `Explore` where memory failed, or the output cannot be written.
-fn print<X: Explorable, O: Write + Drop>(
-    exploration: &Exploration<X::Choice, X::Cursor, X::Key>,
+fn print<'a, X: Explorable + OfStart<'a>, O: Write + Drop>(
+    exploration: &'a Exploration<X::Choice, X::Cursor, X::Key>,
     alloc: Global,
     out: O,
 ) -> Result<O, Refusal>
@@ -159,8 +159,8 @@ fn print<X: Explorable, O: Write + Drop>(
 /// # Errors
 ///
 /// Those of `explorer`, and `Explore` where memory failed.
-fn tally<X: Explorable>(
-    exploration: &Exploration<X::Choice, X::Cursor, X::Key>,
+fn tally<'a, X: Explorable + OfStart<'a>>(
+    exploration: &'a Exploration<X::Choice, X::Cursor, X::Key>,
     alloc: Global,
     expectation: &Expectation,
 ) -> Result<(TallyOf<X::Cursor>, RightsOf<X::Key>), Refusal>
@@ -179,8 +179,8 @@ fn tally<X: Explorable>(
 /// # Errors
 ///
 /// `Expectation`; those of `tally`.
-fn counts<X: Explorable>(
-    exploration: &Exploration<X::Choice, X::Cursor, X::Key>,
+fn counts<'a, X: Explorable + OfStart<'a>>(
+    exploration: &'a Exploration<X::Choice, X::Cursor, X::Key>,
     alloc: Global,
     asked: &Asked,
 ) -> Result<(TallyOf<X::Cursor>, Option<RightsOf<X::Key>>), Refusal>
@@ -198,30 +198,48 @@ fn counts<X: Explorable>(
     }
 }
 
+/// What the words ask of the rows, and the exploration that they ask for.
+///
+/// # Errors
+///
+/// What refuses the words or their files.
+pub fn ask<X: Explorable, F: Files>(
+    files: &F,
+    alloc: Global,
+    arguments: &ArgMatches<'_>,
+) -> Result<(Asked, Exploration<X::Choice, X::Cursor, X::Key>), Refusal>
+    ensures { IfOk result (λ given. (given.1.extent.cuts ≤ 16) × (1 ≤ given.1.extent.limit)) }
+{
+    let asked = Asked::read(arguments)?;
+    let exploration = read::<X, F>(files, alloc, arguments)?;
+    Ok((asked, exploration))
+}
+
 /// Prints a page of rows: one for each schedule, or campaign, of at most so many cuts that can occur, in their order, from the first
 /// or after the one that the options name, up to one that the options name. Where something is asked of the rows, they are counted once more,
 /// and how many are right follows, and the first that is not.
 ///
 /// # Errors
 ///
-/// What refuses the words or their files; `Expectation`; `Explore` where memory failed, or the output cannot be written. What is asked
-/// of the rows is refused as of a survey, once the page is out.
-pub fn run<X: Explorable, F: Files, O: Write>(
-    files: &F,
+/// `Expectation`; `Explore` where memory failed, or the output cannot be written. What is asked of the rows is refused as of a survey,
+/// once the page is out.
+pub fn run<'a, X: Explorable + OfStart<'a>, O: Write>(
+    exploration: &'a Exploration<X::Choice, X::Cursor, X::Key>,
+    asked: &Asked,
     alloc: Global,
-    arguments: &ArgMatches<'_>,
     out: &mut O,
-) -> Result<(), Refusal> {
-    let asked = Asked::read(arguments)?;
-    let exploration = read::<X, F>(files, alloc, arguments)?;
-    let _known = exploration.expectation(&asked)?;
-    print::<X, &mut O>(&exploration, alloc, &mut *out)?;
+) -> Result<(), Refusal>
+    requires cuts { exploration.now.extent.cuts ≤ 16 }
+    requires limit { 1 ≤ exploration.now.extent.limit }
+{
+    let _known = exploration.expectation(asked)?;
+    print::<X, &mut O>(exploration, alloc, &mut *out)?;
     if !asked.is_any() {
         return Ok(());
     }
-    let (tally, rights) = counts::<X>(&exploration, alloc, &asked)?;
+    let (tally, rights) = counts::<X>(exploration, alloc, asked)?;
     write_lines::<X, O>(&rights, out)?;
-    judge::<X>(&tally, &rights, &asked)
+    judge::<X>(&tally, &rights, asked)
 }
 
 /// Prints how many rows that page would have, how many of them with each result, the greatest number of operations, and where
@@ -229,21 +247,22 @@ pub fn run<X: Explorable, F: Files, O: Write>(
 ///
 /// # Errors
 ///
-/// What refuses the words or their files; `Expectation`; `Explore` where memory failed or the output cannot be written.
+/// `Expectation`; `Explore` where memory failed or the output cannot be written.
 /// With `--all-boot` also `NotAllBoot` where a row does not end in a boot, with `--all-right` `NotAllRight` where one is not right,
 /// and with either `NotWhole` where the page would go on; the output is written then.
-pub fn survey<X: Explorable, F: Files, O: Write>(
-    files: &F,
+pub fn survey<'a, X: Explorable + OfStart<'a>, O: Write>(
+    exploration: &'a Exploration<X::Choice, X::Cursor, X::Key>,
+    asked: &Asked,
     alloc: Global,
-    arguments: &ArgMatches<'_>,
     out: &mut O,
-) -> Result<(), Refusal> {
-    let asked = Asked::read(arguments)?;
-    let exploration = read::<X, F>(files, alloc, arguments)?;
-    let (tally, rights) = counts::<X>(&exploration, alloc, &asked)?;
+) -> Result<(), Refusal>
+    requires cuts { exploration.now.extent.cuts ≤ 16 }
+    requires limit { 1 ≤ exploration.now.extent.limit }
+{
+    let (tally, rights) = counts::<X>(exploration, alloc, asked)?;
     write_tally::<X, O>(&tally, out)?;
     write_lines::<X, O>(&rights, out)?;
-    judge::<X>(&tally, &rights, &asked)
+    judge::<X>(&tally, &rights, asked)
 }
 
 /// The verdict on the rows that were counted.

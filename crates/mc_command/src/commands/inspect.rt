@@ -6,7 +6,7 @@ ghost use Rattle.mc_command.specs.Inspections.{IsFound, IsSwapOf, first_of, seco
 
 use clap::ArgMatches;
 use mc_explore::{Kind, OneRound, Start, take_census, write_census};
-use mc_flash::{JournalFlash, Layout};
+use mc_flash::{FlashError, JournalFlash, Layout};
 use mc_options::{
     GREATEST_FLASH, GREATEST_IMAGE, Refusal, kind_name, layout_options, read_file, required,
     rules_options,
@@ -201,8 +201,10 @@ fn find_in(alloc: Global, flash: &Start, images: &Images, kind: Kind) -> Result<
 {
     let start = images.start_of(alloc, flash.layout(), flash.rules(), kind)?;
     let (primary, secondary) = (flash.primary(), flash.secondary());
-    let located = locate::<JournalFlash>(alloc, &start, primary, secondary, MOST_CUTS)?;
-    Ok(Found { kind, located })
+    match locate::<JournalFlash>(alloc, &start, primary, secondary, MOST_CUTS) {
+        Ok(located) => Ok(Found { kind, located }),
+        Err(_) => Err(Refusal::Flash(FlashError::Memory)),
+    }
 }
 
 /// That of two where fewer sectors differ; the first where as many do.

@@ -1,15 +1,14 @@
 -- A walk that goes to the children of a node, one after another.
 use Rattle.std.proofs.{Common.{List, [], arith, length, length-append, subst, suc, sym, true, ℕ, ◌++◌, ◌<◌, ◌∙◌, ◌∷◌, ◌≡◌}, lemmas.List.{same_from_push}}
 use Rattle.mc_explore.specs.inner.Table.{CanPass, HasSameLimits, Passed, ReachesChild}
-use Rattle.mc_flash.specs.Flash.{Content}
 use Rattle.mc_tree.specs.{Tree.{Allowed, Beyond, landed}, facts.Order.{HasPassed, allowed-push, landed-push}}
-use Rattle.mc_walk.specs.{TreeModel.{HasWidth, IsChildOf, TreeModel}, Walks.{IsLastStep, IsPath, IsSame, IsThere, Walked, origin_of, root_of}}
+use Rattle.mc_walk.specs.{TreeModel.{HasWidth, IsChildOf, TreeModel}, Walks.{IsLastStep, IsPath, IsSame, IsThere, Walked}}
 use Rattle.mc_walk.specs.declared.frame.Frame.{Frame}
 
 module _ {N A T B : Type 0} (k : TreeModel N A T) where
   -- At the end of its path the flash stands at a child, with both summaries.
   pub child_here : (w : Walked B) (f : Frame A T) (summary : T) → IsThere k w summary → (step : IsLastStep k w f)
-      → IsChildOf k (landed k.tree (root_of k w) step.before) f.number f.at f.parent summary w.seen
+      → IsChildOf k (landed k.tree k.root step.before) f.number f.at f.parent summary w.seen
   child_here w f summary there step = grind (arith, landed-push)
 
 -- The children of the node where a walk stood, one after another.
@@ -18,7 +17,7 @@ module _ {N A T B : Type 0} (model : B → TreeModel N A T) (old : Walked B) whe
   k = model old.flash_tree
 
   abbrev root : N
-  root = root_of k old
+  root = k.root
 
   pub width_here : (b : B) (summary : T) (width : ℕ) → b ≡ old.flash_tree → IsThere k old summary → HasWidth (model b) summary width → width ≡ k.tree.width (landed k.tree root old.path)
   width_here b summary width same there has = subst (λ b. HasWidth (model b) summary width) same has (landed k.tree root old.path) there.summary_is
@@ -37,24 +36,16 @@ module _ {N A T B : Type 0} (model : B → TreeModel N A T) (old : Walked B) whe
     pub limits : HasSameLimits old at
     pub stands : at.stands ≡ true
 
-  -- What holds of the same walk elsewhere.
-  module _ (now : Walked B) (same : IsSame old now) (P : B → Content → Type 0) where
-    pub there_too : P old.flash_tree (origin_of old.seen) → P now.flash_tree (origin_of now.seen)
-    there_too p = subst (P now.flash_tree) (sym same.origin) (subst (λ b. P b (origin_of old.seen)) (sym same.flash_tree) p)
-
-    pub here_too : P now.flash_tree (origin_of now.seen) → P old.flash_tree (origin_of old.seen)
-    here_too p = subst (λ b. P b (origin_of old.seen)) same.flash_tree (subst (P now.flash_tree) same.origin p)
-
   module _ (listed : IsPath k old old.path) (number : ℕ) (some : number < k.tree.width (landed k.tree root old.path)) (deep : length old.path < old.bound) where
     pub child_listed : IsPath k old (old.path ++ number ∷ [])
     child_listed = (omega (arith, deep, length-append old.path (number ∷ [])), allowed-push k.tree root old.path number listed.1 some)
 
     module _ (now : Walked B) (come : HasCome number now) where
       passed_now : Passed (model now.flash_tree) old.path number now
-      passed_now = there_too now come.same (λ b c. HasPassed (model b).tree ((model b).root c) old.path number now.path) come.passed
+      passed_now = subst (λ b. HasPassed (model b).tree (model b).root old.path number now.path) (sym come.same.flash_tree) come.passed
 
       listed_now : IsPath (model now.flash_tree) now (old.path ++ number ∷ [])
-      listed_now = (omega (arith, child_listed.0, come.same.bound), there_too now come.same (λ b c. Allowed (model b).tree ((model b).root c) (old.path ++ number ∷ [])) child_listed.1)
+      listed_now = (omega (arith, child_listed.0, come.same.bound), subst (λ b. Allowed (model b).tree (model b).root (old.path ++ number ∷ [])) (sym come.same.flash_tree) child_listed.1)
 
       pub can_pass : CanPass (model now.flash_tree) number now
       can_pass = record { path = old.path; passed = passed_now; listed = listed_now }
@@ -67,7 +58,6 @@ module _ {N A T B : Type 0} (model : B → TreeModel N A T) (old : Walked B) whe
             same = record {
               flash_tree = there.1.flash_tree ∙ come.same.flash_tree;
               bound = there.1.bound ∙ come.same.bound;
-              origin = there.1.origin ∙ come.same.origin;
             };
             limits = limits ∙ come.limits;
             stands = there.2;
@@ -75,7 +65,7 @@ module _ {N A T B : Type 0} (model : B → TreeModel N A T) (old : Walked B) whe
 
     pub listed_there : (at : Walked B) → IsAtChild number at → IsPath (model at.flash_tree) at at.path
     listed_there at here =
-        let allowed = there_too at here.same (λ b c. Allowed (model b).tree ((model b).root c) (old.path ++ number ∷ [])) child_listed.1 in
+        let allowed = subst (λ b. Allowed (model b).tree (model b).root (old.path ++ number ∷ [])) (sym here.same.flash_tree) child_listed.1 in
         subst (IsPath (model at.flash_tree) at) (sym here.path) (omega (arith, child_listed.0, here.same.bound), allowed)
 
   -- One child more was reached, and what lies below it is not gone through, or was.
@@ -88,6 +78,6 @@ module _ {N A T B : Type 0} (model : B → TreeModel N A T) (old : Walked B) whe
   child_there number at f summary here there step =
       let same = same_from_push step.before old.path f.number number (sym step.path_is ∙ here.path) in
       let P : List ℕ → ℕ → Type 0 = λ l i. IsChildOf k (landed k.tree root l) i f.at f.parent summary at.seen in
-      let is : P step.before f.number = here_too at here.same (λ b c. IsChildOf (model b) (landed (model b).tree ((model b).root c) step.before) f.number f.at f.parent summary at.seen)
+      let is : P step.before f.number = subst (λ b. IsChildOf (model b) (landed (model b).tree (model b).root step.before) f.number f.at f.parent summary at.seen) here.same.flash_tree
       (child_here (model at.flash_tree) at f summary there step) in
       subst (P old.path) same.1 (subst (λ l. P l f.number) same.0 is)

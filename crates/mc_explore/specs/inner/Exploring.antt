@@ -3,10 +3,10 @@
 use Rattle.std.specs.Prelude.{Bool, Err, IfSome, List, None, Ok, Option, Result, Some, [], false, length, suc, true, zero, ℕ, ◌++◌, ◌+◌, ◌^◌, ◌↔◌, ◌∷◌, ◌≡◌, ◌≢◌, ◌≤◌}
 use Rattle.mc_boot.specs.Plan.{PowerOn}
 use Rattle.mc_explore.specs.{Subject.{Explored, IsRowAt, State, Subject}, declared.ahead.RowsAhead.{RowsAhead}}
-use Rattle.mc_flash.specs.{Flash.{Content}, Geometry.{IsLayout}, Usage.{Loads, RanOut, Seen, Spent}}
+use Rattle.mc_flash.specs.{Geometry.{IsLayout}, Usage.{Loads, RanOut, Seen, Spent}}
 use Rattle.mc_tree.specs.Tree.{After, IsNext, IsOver, Position, Precedes, Tree, landed}
 use Rattle.mc_walk.specs.TreeModel.{TreeModel}
-use Rattle.mc_walk.specs.Walks.{IsFresh, IsPath, IsSame, StandsAt, StandsBeyond, Toured, Walked, child_cost, origin_of, position_of, root_of}
+use Rattle.mc_walk.specs.Walks.{IsFresh, IsPath, IsSame, StandsAt, StandsBeyond, Toured, Walked, child_cost, position_of}
 use Rattle.mc_walk.specs.{declared.tour.Phase.{Phase}, declared.tour.Phase.TheVariants.{Broken, Done, Fresh, Going}, declared.tour.TourError.{TourError}}
 use Rattle.mc_walk.specs.declared.tour.TourError.TheVariants as errors
 use Rattle.mc_tree.specs.Tree as tree
@@ -24,9 +24,6 @@ module _ {C K R U N : Type 0} (x : Subject C K R U) (t : Tree N) (root : N) (sta
 
 -- What an explorer's fields stand for, and what holds of them.
 
-abbrev pub begun_of : {B : Type 0} → (B → Content → PowerOn) → Walked B → PowerOn
-begun_of begins w = begins w.flash_tree (origin_of w.seen)
-
 -- Rows that are given one after another: the walk, how it stands, and the path of the last row.
 pub record Rowed (B : Type 0) : Type 0 where
   pub walk : Walked B
@@ -36,11 +33,11 @@ pub record Rowed (B : Type 0) : Type 0 where
 abbrev pub position_in : {B : Type 0} → Rowed B → Position (List ℕ)
 position_in rows = position_of rows.phase rows.last
 
-module _ {B C K : Type 0} (begins : B → Content → PowerOn) (choice : B → C) where
+module _ {B C K : Type 0} (begins : B → PowerOn) (choice : B → C) where
   -- The state of an explorer on that walk.
   abbrev pub state_of : Walked B → Position K → State C K
   state_of w position = record {
-    start = begun_of begins w;
+    start = begins w.flash_tree;
     choice = choice w.flash_tree;
     bound = w.bound;
     position = position;
@@ -55,22 +52,22 @@ module _ {B C K : Type 0} (begins : B → Content → PowerOn) (choice : B → C
     marked = length w.seen.checkpoints;
   }
 
-module _ {B C : Type 0} (begins : B → Content → PowerOn) (choice : B → C) where
+module _ {B C : Type 0} (begins : B → PowerOn) (choice : B → C) where
   -- The walk is one from that start with so many cuts, and the flash counts where its model does.
   pub record IsOurs (counted : Bool) (start : PowerOn) (chosen : C) (bound : ℕ) (w : Walked B) : Type 0 where
-    pub start_is : begun_of begins w ≡ start
+    pub start_is : begins w.flash_tree ≡ start
     pub choice_is : choice w.flash_tree ≡ chosen
     pub bound_is : w.bound ≡ bound
     pub at_most : bound ≤ 16
     pub counted_is : w.seen.usage.limits.counted ≡ counted
 
-module _ {B K N A T : Type 0} (model : B → TreeModel N A T) (key_of : B → Content → List ℕ → K) where
+module _ {B K N A T : Type 0} (model : B → TreeModel N A T) (key_of : B → List ℕ → K) where
   -- The path of the last row is that of its key.
   pub record IsBeyond (rows : Rowed B) (last : K) : Type 0 where
     pub listed : IsPath (model rows.walk.flash_tree) rows.walk rows.last
-    pub key_is : key_of rows.walk.flash_tree (origin_of rows.walk.seen) rows.last ≡ last
+    pub key_is : key_of rows.walk.flash_tree rows.last ≡ last
 
-module _ {B C K N A T : Type 0} (model : B → TreeModel N A T) (begins : B → Content → PowerOn) (choice : B → C) (key_of : B → Content → List ℕ → K) where
+module _ {B C K N A T : Type 0} (model : B → TreeModel N A T) (begins : B → PowerOn) (choice : B → C) (key_of : B → List ℕ → K) where
   -- What holds of an explorer's fields until it fails.
   abbrev pub IsSound : Bool → PowerOn → C → ℕ → Rowed B → K → Type 0
   IsSound counted start chosen bound rows last =
@@ -82,10 +79,10 @@ module _ {B C K N A T : Type 0} (model : B → TreeModel N A T) (begins : B → 
 abbrev pub LoadsFor : Bool → PowerOn → ℕ → Seen → Type 0
 LoadsFor counted x boots f = Loads counted x.geometry x.content.primary x.content.secondary x.rules.grain boots f
 
-module _ {B C N A T : Type 0} (model : B → TreeModel N A T) (begins : B → Content → PowerOn) (choice : B → C) where
+module _ {B C N A T : Type 0} (model : B → TreeModel N A T) (begins : B → PowerOn) (choice : B → C) where
   -- A walk that was just loaded for a start.
   pub record IsLoaded (counted : Bool) (start : PowerOn) (chosen : C) (bound : ℕ) (w : Walked B) : Type 0 where
-    pub start_is : begun_of begins w ≡ start
+    pub start_is : begins w.flash_tree ≡ start
     pub choice_is : choice w.flash_tree ≡ chosen
     pub bound_is : w.bound ≡ bound
     pub fresh : IsFresh (model w.flash_tree) w
@@ -97,11 +94,11 @@ module _ {B C N A T : Type 0} (model : B → TreeModel N A T) (begins : B → Co
 -- A walk goes along the path of a key.
 
 -- From its root it went along the path of a key; or that is none of those to go through.
-abbrev pub FollowsKey : {B C K R U N A T : Type 0} → Subject C K R U → (B → TreeModel N A T) → (B → Content → PowerOn) → (B → C) → (B → Content → List ℕ → K)
+abbrev pub FollowsKey : {B C K R U N A T : Type 0} → Subject C K R U → (B → TreeModel N A T) → (B → PowerOn) → (B → C) → (B → List ℕ → K)
     → Walked B → K → Bool → Walked B → Type 0
 FollowsKey x model begins choice key_of old k true new =
-    IsPath (model old.flash_tree) old new.path × (key_of old.flash_tree (origin_of old.seen) new.path ≡ k) × IsSame old new × (new.stands ≡ true)
-FollowsKey x model begins choice key_of old k false new = x.IsListed (begun_of begins old) (choice old.flash_tree) old.bound k → ⊥
+    IsPath (model old.flash_tree) old new.path × (key_of old.flash_tree new.path ≡ k) × IsSame old new × (new.stands ≡ true)
+FollowsKey x model begins choice key_of old k false new = x.IsListed (begins old.flash_tree) (choice old.flash_tree) old.bound k → ⊥
 
 -- The limits of a flash stay, and it was refused no memory.
 pub record NoAllocationFailed (old new : Seen) : Type 0 where
@@ -109,8 +106,8 @@ pub record NoAllocationFailed (old new : Seen) : Type 0 where
   pub failed : new.usage.failed ≡ old.usage.failed
 
 -- An explorer of so many cuts takes no more than its subject says on the way to a key.
-abbrev pub IsCheapFor : {B C K R U : Type 0} → Subject C K R U → (B → Content → PowerOn) → Walked B → ℕ → Type 0
-IsCheapFor x begins old applied = x.IsCheap (begun_of begins old).rules (begun_of begins old).geometry old.bound applied
+abbrev pub IsCheapFor : {B C K R U : Type 0} → Subject C K R U → (B → PowerOn) → Walked B → ℕ → Type 0
+IsCheapFor x begins old applied = x.IsCheap (begins old.flash_tree).rules (begins old.flash_tree).geometry old.bound applied
 
 -- Rows that are found without the flash, after the last one that it gave.
 
@@ -128,23 +125,23 @@ abbrev pub IsSpent : {E : Type 0} → RowsAhead E → Type 0
 IsSpent x = x.count ≤ x.next
 
 -- The children of the node at the end of a path are found ahead, and no path goes on after them.
-pub record AreBeyond {B N A T H E : Type 0} (model : B → TreeModel N A T) (is_ahead : B → Content → H → List ℕ → E → ℕ → Type 0) (w : Walked B) (kept : H) (path : List ℕ) (x : RowsAhead E)
+pub record AreBeyond {B N A T H E : Type 0} (model : B → TreeModel N A T) (is_ahead : B → H → List ℕ → E → ℕ → Type 0) (w : Walked B) (kept : H) (path : List ℕ) (x : RowsAhead E)
     : Type 0 where
   pub deep : length path + 1 ≡ w.bound
   pub listed : IsPath (model w.flash_tree) w path
-  pub are : is_ahead w.flash_tree (origin_of w.seen) kept path x.ahead x.count
-  pub count_is : x.count ≡ (model w.flash_tree).tree.width (landed (model w.flash_tree).tree (root_of (model w.flash_tree) w) path)
+  pub are : is_ahead w.flash_tree kept path x.ahead x.count
+  pub count_is : x.count ≡ (model w.flash_tree).tree.width (landed (model w.flash_tree).tree (model w.flash_tree).root path)
   pub some : 1 ≤ x.count
   pub small : x.count ≤ 2 ^ 31
 
 -- How the rows of an exploration are seen, and the row that comes next.
 
-module _ {B C K R U N A T : Type 0} (x : Subject C K R U) (model : B → TreeModel N A T) (begins : B → Content → PowerOn) (choice : B → C) (key_of : B → Content → List ℕ → K) where
+module _ {B C K R U N A T : Type 0} (x : Subject C K R U) (model : B → TreeModel N A T) (begins : B → PowerOn) (choice : B → C) (key_of : B → List ℕ → K) where
   -- The row of the next path, with its outcomes; or there is none, and the flash stays.
   abbrev pub FindsRow : Rowed B → Option R → Rowed B → Type 0
   FindsRow old (Some row) new =
       IsNext (IsPath (model old.walk.flash_tree) old.walk) (position_in old) new.last
-      × IsRowAt x begins choice key_of old.walk.flash_tree (origin_of old.walk.seen) new.last row × IsSame old.walk new.walk × (new.phase ≡ Going)
+      × IsRowAt x begins choice key_of old.walk.flash_tree new.last row × IsSame old.walk new.walk × (new.phase ≡ Going)
   FindsRow old None new =
       IsOver (IsPath (model old.walk.flash_tree) old.walk) (position_in old) × (new.walk.seen ≡ old.walk.seen) × IsSame old.walk new.walk
       × (new.phase ≡ Done) × (new.last ≡ old.last)
@@ -162,7 +159,7 @@ module _ {B N A T : Type 0} (model : B → TreeModel N A T) where
   StandsFor true t = StandsBeyond (model t.walk.flash_tree) t
   StandsFor false t = StandsAt (model t.walk.flash_tree) t
 
-module _ {B N A T H E : Type 0} (model : B → TreeModel N A T) (holds : B → Content → H → Type 0) (is_ahead : B → Content → H → List ℕ → E → ℕ → Type 0) where
+module _ {B N A T H E : Type 0} (model : B → TreeModel N A T) (holds : B → H → Type 0) (is_ahead : B → H → List ℕ → E → ℕ → Type 0) where
   -- How a tour stands with the last row, whose path is that one, or that with a number of those ahead after it.
   abbrev pub IsAtPhase : Walked B → H → List ℕ → Option (RowsAhead E) → Phase → Type 0
   IsAtPhase walk kept path ahead Fresh = ahead ≡ None
@@ -173,7 +170,7 @@ module _ {B N A T H E : Type 0} (model : B → TreeModel N A T) (holds : B → C
   -- What holds of the fields of rows.
   pub record IsInStep (t : Toured B) (kept : H) (path : List ℕ) (ahead : Option (RowsAhead E)) : Type 0 where
     pub at_most : t.walk.bound ≤ 16
-    pub holds_there : holds t.walk.flash_tree (origin_of t.walk.seen) kept
+    pub holds_there : holds t.walk.flash_tree kept
     pub stands : IsAtPhase t.walk kept path ahead t.phase
 
   pub record IsRowing (t : Toured B) (kept : H) (path : List ℕ) (ahead : Option (RowsAhead E)) : Type 0 where

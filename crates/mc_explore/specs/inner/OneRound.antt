@@ -1,16 +1,17 @@
 -- The tree of boots that are cut, and how a walk goes through it.
 use Rattle.std.proofs.Common.{arith}
-use Rattle.std.specs.Prelude.{Err, List, None, Ok, Option, Result, Some, [], length, refl, ℕ, ◌+◌, ◌<◌, ◌∷◌, ◌≡◌}
+use Rattle.std.specs.Prelude.{Err, List, None, Ok, Option, Result, Some, [], length, ℕ, ◌+◌, ◌<◌, ◌∷◌, ◌≡◌}
 use Rattle.mc_boot.specs.{Boot.{HasCome, IsBootOf, IsBounded, IsCold, all_of, begun, left_of, progress}, Outcome.{at, left_by, ops_of, outcome_of, shown}}
-use Rattle.mc_boot.specs.{Plan.{PowerOn, again, plan, power_on}, SharedTail.{IsSharedTail}, declared.boot.Boot.{Boot}}
+use Rattle.mc_boot.specs.{Plan.{PowerOn, again, plan}, SharedTail.{IsSharedTail}, declared.boot.Boot.{Boot}}
 use Rattle.mc_boot.specs.declared.shared_tail.SharedTail.{SharedTail}
 use Rattle.mc_explore.specs.{declared.one_round.OneRound.{OneRound}, declared.one_round.Summary.{Summary}}
-use Rattle.mc_flash.specs.{Flash.{Content, IsSized}, Geometry.{Geometry}}
+use Rattle.mc_flash.specs.Flash.{Content, IsSized}
 use Rattle.mc_flash.specs.Usage.{Allows, Counts, Keeps, LeaveRoom, Seen, most_operations, most_saved, no_counts, plus}
 use Rattle.mc_image.specs.Image.{IsBytes}
+use Rattle.mc_start.specs.Start as starts
 use Rattle.mc_trailer.specs.declared.tables.Rules.{Rules}
 use Rattle.mc_tree.specs.Tree.{Tree}
-use Rattle.mc_walk.specs.{TreeModel.{IsAt, TreeModel}, Walks.{Walked, origin_of}}
+use Rattle.mc_walk.specs.{TreeModel.{IsAt, TreeModel}, Walks.{Walked}}
 
 -- The tree of boots that are cut. A cut that can't occur is that of no child, and of it the tree says nothing.
 
@@ -22,9 +23,9 @@ content_or s (Some t) = t
 unfoldable pub at_cut : PowerOn → ℕ → Content
 at_cut x c = content_or x.content (at x c)
 
--- The boot from a content can be cut before each operation that it makes uncut.
-abbrev pub boots : Rules → Geometry → Tree Content
-boots r g = record { width = λ s. length (ops_of (power_on r g s)); child = λ s. at_cut (power_on r g s) }
+-- A node is what a boot begins with. That boot can be cut before each operation that it makes uncut, and the next one begins there.
+abbrev pub boots : Tree PowerOn
+boots = record { width = λ x. length (ops_of x); child = λ x c. again x (at_cut x c) }
 
 -- The contents at the cuts of a schedule.
 abbrev pub cuts : PowerOn → List ℕ → List Content
@@ -33,17 +34,16 @@ cuts x (cut ∷ rest) = at_cut x cut ∷ cuts (again x (at_cut x cut)) rest
 
 -- The tree of boots that are cut, as a walk goes through it.
 
--- What a boot from a content begins with.
-abbrev pub begins : OneRound → Content → PowerOn
-begins o s = power_on o.rules o.layout s
+-- What the first boot from a start begins with.
+abbrev pub begins : OneRound → PowerOn
+begins o = starts.begun o.start.now
 
--- What the first boot of a walk begins with.
 abbrev pub begun_of : Walked OneRound → PowerOn
-begun_of w = begins w.flash_tree (origin_of w.seen)
+begun_of w = begins w.flash_tree
 
 -- The most that a boot counts.
-abbrev pub most_of : Rules → Geometry → Counts
-most_of r g = record { entries = most_operations r.grain g; saved = most_saved g }
+abbrev pub most_of : PowerOn → Counts
+most_of x = record { entries = most_operations x.rules.grain x.geometry; saved = most_saved x.geometry }
 
 -- The boot of s has made so many operations.
 pub record HasMade (x : PowerOn) (n : ℕ) (b : Boot) : Type 0 where
@@ -68,10 +68,10 @@ pub record IsBegun (r : Rules) (f : Seen) (b : Boot) : Type 0 where
   pub cold : IsCold r f b
   pub bytes : IsBytes f.content.secondary
 
--- Such a boot, of a flash of that layout.
-pub record BeginsOn (r : Rules) (g : Geometry) (f : Seen) (b : Boot) : Type 0 where
-  pub layout_is : f.geometry ≡ g
-  pub begun : IsBegun r f b
+-- Such a boot, by the rules of that start and of a flash of its layout.
+pub record BeginsOn (start : PowerOn) (f : Seen) (b : Boot) : Type 0 where
+  pub layout_is : f.geometry ≡ start.geometry
+  pub begun : IsBegun start.rules f b
 
 -- The boot from x ran to its end: its summary is that, and it left this.
 pub record HasRun (x : PowerOn) (summary : Summary) (left : Content) : Type 0 where
@@ -83,44 +83,46 @@ pub record CountsAtMost (most : Counts) (old new : Seen) : Type 0 where
   pub keeps : Keeps old new
   pub counts : LeaveRoom new.usage.counts no_counts (plus old.usage.counts most)
 
--- A node is a content. One goes from a child to the next by one operation, and one boot finds the summary of a node.
-abbrev pub one_round : Rules → Geometry → TreeModel Content Boot Summary
-one_round r g = record {
-  tree = boots r g;
-  geometry = g;
-  content = λ s. s;
-  root = λ s. s;
-  root_is = λ s. refl;
-  IsOn = λ s. HasMade (power_on r g s);
-  IsSummary = λ s. IsSummary (power_on r g s);
-  step = 1;
-  owed = λ s. most_of r g;
-  all = most_of r g;
-  all_is = λ s. record { entries = omega arith; saved = omega arith };
-  left = λ b. left_of g (progress b);
-  most = most_of r g;
-  most_is = λ s i b on some. record { entries = omega arith; saved = omega arith };
-}
+module _ (start : PowerOn) where
+  -- It is by the rules and of the layout of the start.
+  abbrev pub IsOf : PowerOn → Type 0
+  IsOf x = x ≡ again start x.content
 
--- The boot of a content was cut before an operation that it makes uncut, and there is room for what it has left.
-abbrev pub CanPass : Rules → Geometry → Boot → Seen → Type 0
-CanPass r g b seen =
-    (s : Content) × (i : ℕ) × IsAt (one_round r g) s i b seen × (i < length (ops_of (power_on r g s))) × Allows (left_of g (progress b)) seen
+  -- One goes from a child to the next by one operation, and one boot finds the summary of a node.
+  abbrev pub one_round : TreeModel PowerOn Boot Summary
+  one_round = record {
+    tree = boots;
+    root = start;
+    geometry = start.geometry;
+    content = λ x. x.content;
+    IsOn = λ x i b. IsOf x × HasMade x i b;
+    IsSummary = λ x summary. IsOf x × IsSummary x summary;
+    step = 1;
+    owed = λ x. most_of start;
+    all = most_of start;
+    all_is = λ x. record { entries = omega arith; saved = omega arith };
+    left = λ b. left_of start.geometry (progress b);
+    most = most_of start;
+    most_is = λ x i b on some. record { entries = omega arith; saved = omega arith };
+  }
 
--- It has made that operation, and counts no more than it had left.
-abbrev pub Passes : {E : Type 0} → Rules → Geometry → Boot → Seen → Result (Unit {0}) E → Boot → Seen → Type 0
-Passes r g b old (Ok _) b' new =
-    ((s : Content) (i : ℕ) → IsAt (one_round r g) s i b old → i < length (ops_of (power_on r g s)) → IsAt (one_round r g) s (i + 1) b' new)
-    × LeaveRoom new.usage.counts (left_of g (progress b')) (plus old.usage.counts (left_of g (progress b)))
-Passes r g b old (Err _) b' new = Unit {0}
+  -- The boot of a node was cut before an operation that it makes uncut, and there is room for what it has left.
+  abbrev pub CanPass : Boot → Seen → Type 0
+  CanPass b seen = (x : PowerOn) × (i : ℕ) × IsAt one_round x i b seen × (i < length (ops_of x)) × Allows (left_of start.geometry (progress b)) seen
 
--- The uncut boot from a cut leaves what the boot that was cut would have left, with that summary.
-abbrev pub LeavesAlike : Rules → Geometry → Boot → Summary → Seen → Type 0
-LeavesAlike r g b parent seen =
-    (s : Content) (i : ℕ) → IsAt (one_round r g) s i b seen → i < length (ops_of (power_on r g s)) → IsSummary (power_on r g s) parent
-    → left_by (power_on r g (at_cut (power_on r g s) i)) ≡ left_by (power_on r g s)
+  -- It has made that operation, and counts no more than it had left.
+  abbrev pub Passes : {E : Type 0} → Boot → Seen → Result (Unit {0}) E → Boot → Seen → Type 0
+  Passes b old (Ok _) b' new =
+      ((x : PowerOn) (i : ℕ) → IsAt one_round x i b old → i < length (ops_of x) → IsAt one_round x (i + 1) b' new)
+      × LeaveRoom new.usage.counts (left_of start.geometry (progress b')) (plus old.usage.counts (left_of start.geometry (progress b)))
+  Passes b old (Err _) b' new = Unit {0}
+
+  -- The uncut boot from a cut leaves what the boot that was cut would have left, with that summary.
+  abbrev pub LeavesAlike : Boot → Summary → Seen → Type 0
+  LeavesAlike b parent seen =
+      (x : PowerOn) (i : ℕ) → IsAt one_round x i b seen → i < length (ops_of x) → IsSummary x parent → left_by (boots.child x i) ≡ left_by x
 
 -- The boot after a cut goes on with the one that was cut: its flashes lie among those of that one, and both leave the same.
 pub record GoesOnIn (x : PowerOn) (i : ℕ) (tail : SharedTail) : Type 0 where
   pub shared : IsSharedTail x (at_cut x i) tail
-  pub left : left_by (again x (at_cut x i)) ≡ left_by x
+  pub left : left_by (boots.child x i) ≡ left_by x

@@ -5,9 +5,8 @@ use Rattle.mc_boot.specs.declared.shared_tail.SharedTail.{SharedTail}
 use Rattle.mc_explore.specs.{Right.{judged}, declared.census.CensusOf.{CensusOf}, declared.expectation.Expectation.{Expectation}, declared.table.Below.{Below}}
 use Rattle.mc_explore.specs.{declared.table.Below.TheVariants.{Apart, Joined}, declared.table.Level.{Level}, declared.table.Run.{Run}}
 use Rattle.mc_explore.specs.inner.Totals.{Totals, merged, cut_off, no_totals, report_totals, totals}
-use Rattle.mc_flash.specs.Flash.{Content}
 use Rattle.mc_tree.specs.{Tree.{Allowed, Beyond, Tree}, facts.Order.{HasPassed}, inner.Weights.{IsShared, from, path_tree, shared_below, weight}}
-use Rattle.mc_walk.specs.{TreeModel.{TreeModel}, Walks.{IsPath, IsSame, Walked, origin_of, root_of}}
+use Rattle.mc_walk.specs.{TreeModel.{TreeModel}, Walks.{IsPath, IsSame, Walked}}
 
 -- The censuses of the children of one node.
 
@@ -124,14 +123,14 @@ abbrev pub HasSameLimits : {B : Type 0} → Walked B → Walked B → Type 0
 HasSameLimits old new = new.seen.usage.limits ≡ old.seen.usage.limits
 
 module _ {N A T : Type 0} (k : TreeModel N A T) where
-  -- The tree of the paths from the root of a walk.
-  abbrev pub paths_of : {B : Type 0} → Walked B → Tree (List ℕ)
-  paths_of walk = path_tree k.tree (root_of k walk)
+  -- The tree of the paths from the root.
+  abbrev pub paths_of : Tree (List ℕ)
+  paths_of = path_tree k.tree k.root
 
   module _ {B : Type 0} where
     -- The walk has passed so many children of the node at the end of a path, and there is one more, within the bound.
     abbrev pub Passed : List ℕ → ℕ → Walked B → Type 0
-    Passed l number walk = HasPassed k.tree (root_of k walk) l number walk.path
+    Passed l number walk = HasPassed k.tree k.root l number walk.path
 
     pub record CanPass (number : ℕ) (walk : Walked B) : Type 0 where
       pub path : List ℕ
@@ -150,10 +149,10 @@ module _ {N A T : Type 0} (k : TreeModel N A T) where
       pub stands : new.stands ≡ true
       pub more : List ℕ
       pub path_is : new.path ≡ old.path ++ more
-      pub beyond : (m : List ℕ) → Allowed k.tree (root_of k old) m → Beyond new.path m → Beyond old.path m
+      pub beyond : (m : List ℕ) → Allowed k.tree k.root m → Beyond new.path m → Beyond old.path m
 
 -- Where what lies below the node at which a walk stands lies among what lies below its parent.
-abbrev pub IsTailHere : {N A T B : Type 0} → (B → TreeModel N A T) → (B → Content → List ℕ → Report) → Walked B → SharedTail → Type 0
+abbrev pub IsTailHere : {N A T B : Type 0} → (B → TreeModel N A T) → (B → List ℕ → Report) → Walked B → SharedTail → Type 0
 IsTailHere model report_of walk x =
     (e : Expectation) (l : List ℕ) (number : ℕ) → walk.path ≡ l ++ number ∷ []
-    → IsTailOf (paths_of (model walk.flash_tree) walk) (report_of walk.flash_tree (origin_of walk.seen)) e l number x
+    → IsTailOf (paths_of (model walk.flash_tree)) (report_of walk.flash_tree) e l number x

@@ -2,28 +2,19 @@
 use Rattle.std.specs.Prelude.{Bool, IfSome, List, Option, false, true, ℕ, ◌*◌, ◌+◌, ◌≡◌, ◌≤◌}
 use Rattle.mc_boot.specs.Plan.{PowerOn}
 use Rattle.mc_explore.specs.{declared.one_round.OneRound.{OneRound}, inner.OneRound.{begins, begun_of, boots, one_round}}
-use Rattle.mc_flash.specs.{Geometry.{IsLayout}, Usage.{most_operations}}
+use Rattle.mc_explore.specs.inner.Exploring as loading
+use Rattle.mc_flash.specs.Usage.{most_operations}
 use Rattle.mc_start.specs.Start.{start_digest}
-use Rattle.mc_walk.specs.Walks.{IsFresh, Walked}
+use Rattle.mc_walk.specs.Walks.{Walked}
 use Rattle.mc_tree.specs.Tree as tree
-
--- The start of a walk from a flash of these bytes.
-abbrev pub begun_with : OneRound → List ℕ → List ℕ → PowerOn
-begun_with one_round primary secondary = begins one_round (record { primary = primary; secondary = secondary })
 
 -- It is the digest of that start, where there is one.
 abbrev pub IsDigestOf : PowerOn → Option (List ℕ) → Type 0
 IsDigestOf start digest = IfSome digest (λ d. d ≡ start_digest start)
 
--- A walk that was just loaded for a start.
-pub record IsLoaded (counted : Bool) (start : PowerOn) (bound : ℕ) (w : Walked OneRound) : Type 0 where
-  pub start_is : begun_of w ≡ start
-  pub bound_is : w.bound ≡ bound
-  pub fresh : IsFresh (one_round w.flash_tree.rules w.flash_tree.layout) w
-  pub counted_is : w.seen.usage.limits.counted ≡ counted
-  pub idle : w.seen.usage.applied ≡ 0
-  pub no_allocation_failed : w.seen.usage.failed ≡ false
-  pub valid : IsLayout start.geometry
+-- A walk along schedules that was just loaded for a start.
+abbrev pub IsLoaded : Bool → PowerOn → ℕ → Walked OneRound → Type 0
+IsLoaded counted start = loading.IsLoaded {C = Unit {0}} (λ o. one_round (begins o)) begins (λ o. tt) counted start tt
 
 -- A walk that has come along a schedule, from a start.
 pub record Followed (counted : Bool) (start : PowerOn) (bound : ℕ) (path : List ℕ) (w : Walked OneRound) : Type 0 where
@@ -31,7 +22,7 @@ pub record Followed (counted : Bool) (start : PowerOn) (bound : ℕ) (path : Lis
   pub bound_is : w.bound ≡ bound
   pub path_is : w.path ≡ path
   pub stands : w.stands ≡ true
-  pub allowed : tree.IsMember (boots start.rules start.geometry) start.content bound path
+  pub allowed : tree.IsMember boots start bound path
   pub counted_is : w.seen.usage.limits.counted ≡ counted
   pub no_allocation_failed : w.seen.usage.failed ≡ false
   pub applied : w.seen.usage.applied ≤ 2 * (bound + 1) * most_operations start.rules.grain start.geometry

@@ -61,7 +61,7 @@ pub record IsAt (x : PowerOn) (path : List ℕ) (w : Walked OneRound) : Type 0 w
   pub path_is : w.path ≡ path
   pub begun_is : begun_of w ≡ x
   pub few : w.bound ≤ 16
-  pub listed : IsPath (one_round w.flash_tree.rules w.flash_tree.layout) w w.path
+  pub listed : IsPath (one_round (begun_of w)) w w.path
 
 -- The boot from where a walk stands goes on with the one that was cut.
 abbrev pub GoesOnAt : PowerOn → Walked OneRound → Type 0

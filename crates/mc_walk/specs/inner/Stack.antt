@@ -1,6 +1,6 @@
 -- The frames of a walk.
 use Rattle.std.specs.Prelude.{Bool, List, [], false, length, map, true, ℕ, ◌++◌, ◌+◌, ◌<◌, ◌^◌, ◌∷◌, ◌≡◌, ◌≤◌}
-use Rattle.mc_flash.specs.{Flash.{Content}, Usage.{Checkpoint, Counts, HasRoom, LeaveRoom, Seen, checkpoint_of, marked, plus, times}}
+use Rattle.mc_flash.specs.{Usage.{Checkpoint, Counts, HasRoom, LeaveRoom, Seen, checkpoint_of, marked, plus, times}}
 use Rattle.mc_tree.specs.Tree.{landed}
 use Rattle.mc_walk.specs.{TreeModel.{HasNext, TreeModel, owed_there}, declared.frame.Frame.{Frame}}
 
@@ -74,35 +74,34 @@ module _ {N A T : Type 0} (k : TreeModel N A T) where
   AreFrames n steps (checkpoint ∷ checkpoints) (f ∷ fs) =
       IsFrame n steps checkpoint f × AreFrames (k.tree.child n f.number) (steps + 1) checkpoints fs
 
-  -- The frames stand over their checkpoints, and those over that of the origin.
-  pub record Stacked (origin : Content) (checkpoints : List Checkpoint) (fs : List (Frame A T)) : Type 0 where
+  -- The frames stand over their checkpoints, and those over that of the root.
+  pub record Stacked (checkpoints : List Checkpoint) (fs : List (Frame A T)) : Type 0 where
     pub first : Checkpoint
     pub above : List Checkpoint
     pub checkpoints_are : checkpoints ≡ first ∷ above
-    pub origin_is : first.content ≡ origin
-    pub frames : AreFrames (k.root origin) 0 above fs
+    pub frames : AreFrames k.root 0 above fs
 
   -- The node at the end of the frames.
-  abbrev pub node_of : Content → List (Frame A T) → N
-  node_of origin fs = landed k.tree (k.root origin) (path_of fs)
+  abbrev pub node_of : List (Frame A T) → N
+  node_of fs = landed k.tree k.root (path_of fs)
 
   -- The flash stands at that node, with that summary.
-  pub record Stands (origin : Content) (seen : Seen) (fs : List (Frame A T)) (summary : T) : Type 0 where
-    pub stacked : Stacked origin seen.checkpoints fs
-    pub content_is : seen.content ≡ k.content (node_of origin fs)
+  pub record Stands (seen : Seen) (fs : List (Frame A T)) (summary : T) : Type 0 where
+    pub stacked : Stacked seen.checkpoints fs
+    pub content_is : seen.content ≡ k.content (node_of fs)
     pub layout_is : seen.geometry ≡ k.geometry
-    pub summary_is : k.IsSummary (node_of origin fs) summary
-    pub counts : LeaveRoom seen.usage.counts (k.owed (node_of origin fs)) (most_at (length fs))
+    pub summary_is : k.IsSummary (node_of fs) summary
+    pub counts : LeaveRoom seen.usage.counts (k.owed (node_of fs)) (most_at (length fs))
 
   -- A child of that node is on its way, and the flash stands at it.
-  pub record Comes (origin : Content) (seen : Seen) (fs : List (Frame A T)) (f : Frame A T) : Type 0 where
-    pub stacked : Stacked origin seen.checkpoints fs
+  pub record Comes (seen : Seen) (fs : List (Frame A T)) (f : Frame A T) : Type 0 where
+    pub stacked : Stacked seen.checkpoints fs
     pub layout_is : seen.geometry ≡ k.geometry
-    pub frame : IsFrame (node_of origin fs) (length fs) (checkpoint_of seen) f
+    pub frame : IsFrame (node_of fs) (length fs) (checkpoint_of seen) f
 
   -- So it is, and the flash can be marked there, the frame be put on, and the summary of the child be found.
-  pub record Enters (origin : Content) (seen : Seen) (fs : List (Frame A T)) (capacity : ℕ) (f : Frame A T) : Type 0 where
-    pub comes : Comes origin seen fs f
+  pub record Enters (seen : Seen) (fs : List (Frame A T)) (capacity : ℕ) (f : Frame A T) : Type 0 where
+    pub comes : Comes seen fs f
     pub room : HasRoom (owed_there k f.at) (marked seen)
     pub mark : length seen.checkpoints < seen.usage.limits.checkpoints
     pub at_most : length fs < capacity
@@ -115,12 +114,12 @@ module _ {N A T : Type 0} (k : TreeModel N A T) where
 
   -- The flash stands at the child of the last frame, and its parent has a next one. There is room to go to that, to mark the flash
   -- there, and to find its summary.
-  pub record CanGoOn (origin : Content) (seen : Seen) (fs : List (Frame A T)) : Type 0 where
+  pub record CanGoOn (seen : Seen) (fs : List (Frame A T)) : Type 0 where
     pub before : List (Frame A T)
     pub frame : Frame A T
     pub frames_are : fs ≡ before ++ frame ∷ []
-    pub comes : Comes origin seen before frame
-    pub more : frame.number + 1 < k.tree.width (node_of origin before)
+    pub comes : Comes seen before frame
+    pub more : frame.number + 1 < k.tree.width (node_of before)
     pub small : frame.number + 1 < 2 ^ 32
     pub has_next : HasNext k frame.at seen
     pub bound : ℕ

@@ -12,7 +12,7 @@ use Rattle.mc_campaign.proofs.campaign_subject.campaign_at.Goals.{In-Some}
 abbrev all : (g : Over) (c : In-Some g) → List (ℕ × ℕ)
 all g c =
     let w = c.args.walk.now in
-    cuts_along w.flash_tree.one_round.rules w.flash_tree.one_round.layout w.flash_tree.confirms (begun_of w).content w.path
+    cuts_along w.flash_tree.confirms (begun_of w) w.path
 
 below : (g : Over) (c : In-Some g) → c.cuts.step < length c.args.walk.now.path
 below g c = grind (arith, taken_within, labelled-length)
@@ -31,8 +31,7 @@ push-requires-clause-order g c =
     let a = (goal.at.push-requires-clause-order g c).In-Some in
     let w = c.args.walk.now in
     let prefix = ordered_prefix 1 (take (c.cuts.step + 1) (all g a)) (drop (c.cuts.step + 1) (all g a))
-    (subst IsInOrder (sym (take-append-drop (c.cuts.step + 1) (all g a))) (along_ordered (boots w.flash_tree.one_round.rules w.flash_tree.one_round.layout) (second_start w.flash_tree.one_round.rules
-    w.flash_tree.one_round.layout w.flash_tree.confirms) (round_one (begun_of w).content) w.path)) in
+    (subst IsInOrder (sym (take-append-drop (c.cuts.step + 1) (all g a))) (along_ordered boots (second_start w.flash_tree.confirms) (round_one (begun_of w)) w.path)) in
     subst IsInOrder (more g a ∙ ap (λ z. z ++ (c.in-Some.round, c.in-Some.index) ∷ []) (sym c.cuts.invariant)) prefix
 
 pub overflow_add-step : goal.overflow_add-step

@@ -4,8 +4,7 @@ use Rattle.mc_campaign.proofs.campaign_subject.campaign_at.Given as goal
 
 abbrev pub invariant-cuts : goal.invariant-cuts
 invariant-cuts g l =
-    let b = l.walk.flash_tree in
-    l.campaign ≡ take l.step (cuts_along b.one_round.rules b.one_round.layout b.confirms (begun_of l.walk).content l.walk.path)
+    l.campaign ≡ take l.step (cuts_along l.walk.flash_tree.confirms (begun_of l.walk) l.walk.path)
 
 abbrev pub decreases-cuts : goal.decreases-cuts
 decreases-cuts g l = length l.walk.path - l.step

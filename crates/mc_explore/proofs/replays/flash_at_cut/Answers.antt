@@ -4,9 +4,6 @@ use Rattle.mc_explore.specs.{inner.OneRound.{begun_of}, inner.View.{IsLoaded}}
 use Rattle.mc_explore.proofs.Walks.{cut_here, layout_here}
 use Rattle.mc_explore.proofs.replays.flash_at_cut.Goals as goal
 
-pub load-requires : goal.load-requires
-load-requires g c = c.cuts-cuts.ensures.at_most
-
 pub follow-requires-clause-loaded : goal.follow-requires-clause-loaded
 follow-requires-clause-loaded g c =
     let l = c.in_ok-walk.ensures.loaded in

@@ -5,9 +5,6 @@ use Rattle.mc_explore.specs.inner.View.{IsLoaded}
 use Rattle.mc_explore.proofs.Restarts.{replay_restarts}
 use Rattle.mc_explore.proofs.replays.replay.Goals as goal
 
-pub load-requires : goal.load-requires
-load-requires g c = c.cuts-cuts.ensures.at_most
-
 pub replay_on-requires-clause-loaded : goal.replay_on-requires-clause-loaded
 replay_on-requires-clause-loaded g c =
     let l = c.in_ok-walk.ensures.loaded in

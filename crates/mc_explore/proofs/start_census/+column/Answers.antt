@@ -5,7 +5,6 @@ use Rattle.mc_explore.specs.{facts.Children.{HasCome, IsAtChild, can_pass, come_
 use Rattle.mc_explore.specs.{declared.table.Below.{Below}, inner.Table.{AreRuns, HasWeights, IsChild, IsJoined, own_totals, paths_of, weigh_below}}
 use Rattle.mc_explore.specs.inner.Totals.{merged, cut_off, report_totals, totals}
 use Rattle.mc_tree.specs.inner.Weights.{from}
-use Rattle.mc_walk.specs.Walks.{origin_of}
 use Rattle.mc_explore.proofs.start_census.+column.Goals as goal
 use Rattle.mc_explore.proofs.{start_census.+column.Given.{Over}, start_census.+column.Goals.{In_ok-end, in-Some, in-None+in_ok-column-in-None}}
 
@@ -17,7 +16,12 @@ visit_child-requires-clause-passed g t c = grind (arith, width_here, can_pass)
 
 -- The walk stands at that child.
 at_child : (g : Over) (t : ℕ) (c : In_ok-end g t) → IsAtChild g.X.FlashTree.model c.args.walk.now c.loop-number.number c.visit_child.new.walk
-at_child g t c = grind (arith, width_here, reached)
+at_child g t c =
+    let walk = c.args.walk.now in
+    let all = width_here g.X.FlashTree.model walk c.flash_tree-flash_tree.result c.summary.result.now c.width-count.result c.flash_tree-flash_tree.ensures c.summary.ensures c.width-count.ensures in
+    let h = c.in_ok-end.ensures in
+    reached g.X.FlashTree.model walk c.requires.listed c.loop-number.number (omega (arith, c.loop-number-test.true, all)) (omega (arith, c.requires.deep, c.if-bound-eq0.false)) _
+    c.loop-number.invariant.come c.visit_child.new.walk h.reaches h.limits
 
 pub column-requires : goal.column-requires
 column-requires g t c κs within =
@@ -25,7 +29,7 @@ column-requires g t c κs within =
     let walk = c.args.walk.now in
     let at = c.visit_child.new.walk in
     let here = at_child g t x in
-    let all = width_here g.X.FlashTree.model walk c.flash_tree.result c.summary.result.now c.width-count.result c.flash_tree.ensures c.summary.ensures c.width-count.ensures in
+    let all = width_here g.X.FlashTree.model walk c.flash_tree-flash_tree.result c.summary.result.now c.width-count.result c.flash_tree-flash_tree.ensures c.summary.ensures c.width-count.ensures in
     let listed = listed_there g.X.FlashTree.model walk c.requires.listed c.loop-number.number (omega (arith, c.loop-number-test.true, all))
     (omega (arith, c.requires.deep, c.if-bound-eq0.false)) at here in
     let deep : length at.path + (c.args.bound - 1) ≡ at.bound =
@@ -46,10 +50,10 @@ loop-number-preserved g t c =
     let here = at_child g t x in
     let one : suc n ≡ n + 1 = omega arith in
     let fewer : bound - 1 + 1 ≡ bound = omega (arith, c.if-bound-eq0.false) in
-    let paths = paths_of (model walk.flash_tree) walk in
-    let report = report_of walk.flash_tree (origin_of walk.seen) in
+    let paths = paths_of (model walk.flash_tree) in
+    let report = report_of walk.flash_tree in
     let under = weigh_below paths report e walk.path in
-    let all = width_here model walk c.flash_tree.result c.summary.result.now c.width-count.result c.flash_tree.ensures c.summary.ensures c.width-count.ensures in
+    let all = width_here model walk c.flash_tree-flash_tree.result c.summary.result.now c.width-count.result c.flash_tree-flash_tree.ensures c.summary.ensures c.width-count.ensures in
     let own_is = own_there model walk n at here report_of e (shown c.in_ok-end.end.outcome) (shown c.judge-outcome.result) c.in_ok-end.ensures.ended c.judge-outcome.ensures in
     let come : HasCome model walk (suc n) c.match-end.walk = elim c.match-end.branch [
       | in-Some w ↦ subst (HasCome model walk (suc n)) (sym w.walk-is) (come_on model walk n at here)
@@ -77,12 +81,12 @@ returns-clause-column g t c =
     let e = c.args.expectation.now in
     let i = c.loop-number.invariant in
     let count : ℕ = c.width-count.result in
-    let paths = paths_of (g.X.FlashTree.model walk.flash_tree) walk in
-    let report = g.X.Ending.report_of walk.flash_tree (origin_of walk.seen) in
+    let paths = paths_of (g.X.FlashTree.model walk.flash_tree) in
+    let report = g.X.Ending.report_of walk.flash_tree in
     let under = weigh_below paths report e walk.path in
-    let all = width_here g.X.FlashTree.model walk c.flash_tree.result c.summary.result.now count c.flash_tree.ensures c.summary.ensures c.width-count.ensures in
+    let all = width_here g.X.FlashTree.model walk c.flash_tree-flash_tree.result c.summary.result.now count c.flash_tree-flash_tree.ensures c.summary.ensures c.width-count.ensures in
     let own_is : c.of-own.result ≡ cut_off (own_totals paths report e walk.path) =
-    c.of-own.ensures ∙ ap (λ o. cut_off (report_totals o)) (c.judge.ensures ∙ ap (judged e) (c.ended.ensures walk.flash_tree (origin_of walk.seen) walk.path c.summary.ensures.summary_is)) in
+    c.of-own.ensures ∙ ap (λ o. cut_off (report_totals o)) (c.judge.ensures ∙ ap (judged e) ((rw c.flash_tree-flash_tree.ensures at c.ended.ensures) walk.path c.summary.ensures.summary_is)) in
     let column = rw c.deref.ensures.value at c.in_ok-column_of.ensures in
     let done : c.loop-number.number ≡ count = omega (arith, c.loop-number-test.false, c.loop-number.auto.number-end) in
     let is = column (own_totals paths report e walk.path) under own_is (λ i. refl) (subst (λ m. AreRuns under count c.args.bound m c.loop-number.runs.items) done i.runs) in (

@@ -1,5 +1,4 @@
 use Rattle.mc_explore.specs.{facts.Children.{HasCome}, inner.Table.{AreRuns, paths_of, weigh_below}}
-use Rattle.mc_walk.specs.Walks.{origin_of}
 use Rattle.mc_explore.proofs.start_census.+column.Given as goal
 
 abbrev pub decreases-column : goal.decreases-column
@@ -11,5 +10,5 @@ invariant-loop-number g l =
     let k = g.X.FlashTree.model old.flash_tree in
     record {
       come : HasCome g.X.FlashTree.model old l.number l.walk;
-      runs : AreRuns (weigh_below (paths_of k old) (g.X.Ending.report_of old.flash_tree (origin_of old.seen)) l.fn.expectation old.path) l.count l.bound l.number l.runs.items;
+      runs : AreRuns (weigh_below (paths_of k) (g.X.Ending.report_of old.flash_tree) l.fn.expectation old.path) l.count l.bound l.number l.runs.items;
     }

@@ -1,7 +1,7 @@
 use Rattle.mc_explore.proofs.Passing.{tail_at}
 use Rattle.mc_explore.specs.facts.Children.{child_here}
 use Rattle.mc_tree.specs.Tree.{landed}
-use Rattle.mc_walk.specs.{TreeModel.{HasChild}, Walks.{root_of}}
+use Rattle.mc_walk.specs.TreeModel.{HasChild}
 use Rattle.mc_explore.proofs.start_census.tail_here.Goals as goal
 
 pub shared_tail-requires : goal.shared_tail-requires
@@ -10,7 +10,7 @@ shared_tail-requires g c =
     let step = c.in_ok-step.ensures.step in
     let k = g.X.FlashTree.model walk.flash_tree in
     let here : HasChild k c.in_ok-step.step.now.at c.in_ok-step.step.now.parent c.summary.result.now walk.seen =
-    (landed k.tree (root_of k walk) step.before, c.in_ok-step.step.now.number, child_here k walk c.in_ok-step.step.now c.summary.result.now c.summary.ensures step) in
+    (landed k.tree k.root step.before, c.in_ok-step.step.now.number, child_here k walk c.in_ok-step.step.now c.summary.result.now c.summary.ensures step) in
     rw c.flash.ensures (rw c.flash_tree-flash_tree.ensures here)
 
 pub returns : goal.returns

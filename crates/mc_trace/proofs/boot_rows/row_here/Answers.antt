@@ -2,8 +2,8 @@ use Rattle.std.specs.Prelude.{◌≡◌, ◌<◌, Some, is_some, length, slice_g
 use Rattle.std.proofs.Common.{ap, sym, subst, ◌∙◌}
 use Rattle.mc_boot.specs.{Boot.{progress, to_come}, Outcome.{ops_of, outcome_of}, Plan.{again}, facts.Steps.{none_first}}
 use Rattle.mc_flash.specs.Flash.{Content}
-use Rattle.mc_explore.specs.inner.OneRound.{at_cut}
-use Rattle.mc_trace.specs.inner.Rows.{boot_at}
+use Rattle.mc_explore.specs.{facts.Children.{child_here}, inner.LastCuts.{boot_at}, inner.OneRound.{at_cut, begun_of}}
+use Rattle.mc_trace.specs.inner.Rows.{model_of}
 use Rattle.mc_trace.proofs.BootRows.{one_to_come, op_here}
 use Rattle.mc_trace.proofs.boot_rows.row_here.Goals as goal
 
@@ -11,8 +11,8 @@ pub unreachable-requires-in_default-peek : goal.unreachable-requires-in_default-
 unreachable-requires-in_default-peek g c =
     let step = c.in-Some.ensures.step in
     let at = c.in-Some.step.now.at in
-    let x = boot_at c.args.walk.now step.before in
-    let on = step.at_is.on_is in
+    let x = boot_at (begun_of c.args.walk.now) step.before in
+    let on = step.at_is.on_is.1 in
     one_to_come x (progress at) (at_cut x c.in-Some.step.now.number) on.come (subst (λ (n : ℕ). n < length (ops_of x)) (sym on.count_is) step.some)
     (none_first (to_come at) c.peek.result c.peek.ensures.first (ap is_some c.in_default-peek.is))
 
@@ -21,8 +21,9 @@ returns-clause-row g c =
     let w = c.args.walk.now in
     let step = c.in-Some.ensures.step in
     let f = c.in-Some.step.now in
-    let x = boot_at w step.before in
-    let on = step.at_is.on_is in
+    let x = boot_at (begun_of w) step.before in
+    let on = step.at_is.on_is.1 in
+    let child = child_here (model_of w.flash_tree) w f c.summary.result.now c.summary.ensures step in
     let more = subst (λ (n : ℕ). n < length (ops_of x)) (sym on.count_is) step.some in (
       step.before,
       step.path_is,
@@ -31,7 +32,7 @@ returns-clause-row g c =
         content_is = step.at_is.content_is;
         op_is = subst (λ (n : ℕ). slice_get (ops_of x) n ≡ Some c.in-Some-peek.op) on.count_is
             (op_here x (progress f.at) (at_cut x f.number) on.come more c.in-Some-peek.op (sym c.peek.ensures.first ∙ c.in-Some-peek.is));
-        outcome_is = ap (λ (t : Content). outcome_of (again x t)) c.summary.ensures.content_is ∙ c.summary.ensures.summary_is.outcome_is;
+        outcome_is = ap (λ (t : Content). outcome_of (again x t)) step.at_is.content_is ∙ child.child_is.1.outcome_is;
       },
     )
 

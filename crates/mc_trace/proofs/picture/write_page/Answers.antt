@@ -13,6 +13,6 @@ returns-in_err-write_opening-clause-written g c =
 pub returns-clause-written : goal.returns-clause-written
 returns-clause-written g c =
     let start = begun c.args.start.now in
-    let later = rw (c.requires.begun, c.cuts.ensures.value) at c.write_sections.ensures.written in
+    let later = rw (c.requires.root, c.cuts.ensures.value) at c.write_sections.ensures.written in
     writes_then _ _ _ (opening_text c.args.schedule.now c.args.verdict.now) (sections_text c.args.look.now start.content 0 start c.args.schedule.now) c.write_sections.result
     c.in_ok-write_opening.ensures.written later

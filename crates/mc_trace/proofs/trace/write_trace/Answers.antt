@@ -48,7 +48,7 @@ boots-preserved g c =
           (g.W.Write.contents c.write_cut_boot.new.writer) c.boots.cut-index
           c.boots.boot (g.F.Flash.seen c.boots.flash) i.written c.boots-test.true r.cut occurs (g.F.Flash.seen c.write_cut_boot.new.flash) (rw c.rules-rules.ensures at e.whole)
           (rw c.rules-rules.ensures at e.left) e.layout;
-      counts = one_counted start.rules _ start.geometry _ c.rules-rules.ensures i.written.layout c.boots.cut-index _ i.counts (g.F.Flash.seen c.write_cut_boot.new.flash).usage.counts e.counts.counts;
+      counts = one_counted start c.rules-rules.result (g.F.Flash.seen c.boots.flash) c.rules-rules.ensures i.written.layout c.boots.cut-index i.counts _ e.counts.counts;
       limits = e.counts.limits ∙ i.limits;
     }
 
@@ -110,8 +110,8 @@ write_cut_boot-requires-clause-room g c =
     let i = c.boots.invariant in
     let f = g.F.Flash.seen c.boots.flash in
     let a = goal.at.write_cut_boot-requires-clause-room g c in
-    room_left start.rules c.rules-rules.result start.geometry f.geometry c.rules-rules.ensures i.written.layout c.boots.cut-index f.usage.counts i.counts
-    (length c.cuts-cuts.result.now + 1) f.usage.limits (omega arith) (loaded_for g a.In_ok-flash f.usage.limits i.limits)
+    room_left start c.rules-rules.result f c.rules-rules.ensures i.written.layout c.boots.cut-index i.counts (length c.cuts-cuts.result.now + 1) (omega arith)
+    (loaded_for g a.In_ok-flash f.usage.limits i.limits)
 
 pub write_last_boot-requires : goal.write_last_boot-requires
 write_last_boot-requires g c =
@@ -119,5 +119,5 @@ write_last_boot-requires g c =
     let i = c.boots.invariant in
     let f = g.F.Flash.seen c.boots.flash in
     let a = goal.at.write_last_boot-requires g c in
-    room_left start.rules c.rules-rules.result start.geometry f.geometry c.rules-rules.ensures i.written.layout c.boots.cut-index f.usage.counts i.counts
-    (length c.cuts-cuts.result.now + 1) f.usage.limits (omega arith) (loaded_for g a.In_ok-flash f.usage.limits i.limits)
+    room_left start c.rules-rules.result f c.rules-rules.ensures i.written.layout c.boots.cut-index i.counts (length c.cuts-cuts.result.now + 1) (omega arith)
+    (loaded_for g a.In_ok-flash f.usage.limits i.limits)

@@ -30,7 +30,7 @@ loop-case-preserved g c =
     let inside : i < length cases = omega arith in
     let at : Contains cases here = (i, inside, sym c.case-item.is) in
     let u = some_of (after x here.schedule) (c.requires.occur here at) in
-    let counted = c.in_ok-count.ensures.count u.0 u.1 in
+    let counted = c.in_ok-count.ensures u.0 u.1 in
     let yet = c.loop-case.invariant in
     let best = c.loop-case.best in
     let least = c.loop-case.least in
@@ -41,8 +41,8 @@ loop-case-preserved g c =
           rw (w.best-is, w.least-is) (no_nearer x s cases i best least yet c.requires.sorted here inside c.case-item.is u.0 u.1 c.in_ok-count.count counted w.if-count-least.false)
     ]
 
-pub returns-clause-nearest : goal.returns-clause-nearest
-returns-clause-nearest g c =
+pub returns : goal.returns
+returns g c =
     let x = begun c.args.start.now in
     let yet = c.loop-case.invariant in
     elim c.loop-case-test.branch [

@@ -1,10 +1,10 @@
 use Rattle.std.proofs.Common.{rules}
 use Rattle.mc_command.proofs.commands.inspect.find_in.Goals as goal
 
-pub returns-clause-found : goal.returns-clause-found
-returns-clause-found c =
+pub returns-in-Ok-clause-found : goal.returns-in-Ok-clause-found
+returns-in-Ok-clause-found c =
     record {
       start = c.in_ok-start.start;
       swap = search rules;
-      nearest = rw (c.primary-primary.ensures.value, c.secondary-secondary.ensures.value) at c.in_ok-located.ensures.nearest;
+      nearest = rw (c.primary-primary.ensures.value, c.secondary-secondary.ensures.value) at c.in-Ok.ensures.nearest;
     }

@@ -1,4 +1,5 @@
 use Rattle.mc_boot.specs.Boot.{progress}
+use Rattle.mc_explore.specs.inner.OneRound.{begins}
 use Rattle.mc_explore.proofs.Onwards.{left_run, summary_run, ends_with}
 use Rattle.mc_explore.proofs.one_round.OneRound.run.Goals as goal
 
@@ -9,7 +10,7 @@ returns-clause-ran g c =
     let new = g.F.Flash.seen c.finish.new.flash in
     let outcome = c.outcome_among-outcome.result in
     record {
-      summary_is = summary_run _ _ _ c.args.boot at.layout_is at.begun outcome (ends_with _ new _ (progress c.finish.new.self) outcome e.goes.keeps e.goes.come e.end
+      summary_is = summary_run (begins c.args.self.now) _ c.args.boot at.layout_is at.begun outcome (ends_with _ new _ (progress c.finish.new.self) outcome e.goes.keeps e.goes.come e.end
           c.outcome_among-outcome.ensures.end);
-      left_is = left_run _ _ _ c.args.boot at.layout_is at.begun (progress c.finish.new.self) new e.goes.come e.end;
+      left_is = left_run (begins c.args.self.now) _ c.args.boot at.layout_is at.begun (progress c.finish.new.self) new e.goes.come e.end;
     }

@@ -1,7 +1,7 @@
+use Rattle.mc_explore.specs.inner.OneRound.{begins}
 use Rattle.mc_explore.proofs.Onwards.{goes_on_here}
 use Rattle.mc_explore.proofs.one_round.OneRound.tail_of.Goals as goal
 
 pub returns : goal.returns
 returns g c =
-    goes_on_here c.args.self.now.rules c.args.self.now.layout c.args.at.now c.args.child.now c.args.parent.now (g.F.Flash.seen c.args.flash.now) c.find.result c.find.ensures
-    c.in_ok-outcome_after.ensures.left
+    goes_on_here (begins c.args.self.now) c.args.at.now c.args.child.now c.args.parent.now (g.F.Flash.seen c.args.flash.now) c.find.result c.find.ensures c.in_ok-outcome_after.ensures.left

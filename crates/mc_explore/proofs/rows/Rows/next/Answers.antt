@@ -1,5 +1,5 @@
 use Rattle.std.proofs.Common.{◌≡◌, ◌+◌, ◌++◌, ◌∷◌, [], Bool, true, false, Option, Some, List, ℕ, refl, sym, ap, subst, ◌∙◌}
-use Rattle.mc_walk.specs.Walks.{Visits, position_of, IsPath, Walked, origin_of}
+use Rattle.mc_walk.specs.Walks.{Visits, position_of, IsPath, Walked}
 use Rattle.mc_explore.specs.{declared.ahead.RowsAhead.{RowsAhead}, inner.Exploring.{last_of, with_last, FindsRow, IsRowing, Rowed}, Subject.{IsRowAt}}
 use Rattle.mc_explore.proofs.Rowing.{HasArrived, ahead_there, few_next, going_there, last_next, last_there, listed_there, next_ahead, path_next, rowing_next, rowing_over, stands_for, stands_next, some_found, step}
 use Rattle.mc_explore.proofs.{Visiting.{row_back}, rows.Rows.next.Given.{Over}}
@@ -29,7 +29,7 @@ returns-in-Some-clause-finds g c =
     let holds = (step g.X.FlashTree.model g.X.Subject.holds g.X.Subject.is_ahead s.tour s.kept s.path x i lt).holds_there in
     let going = going_there g.X.FlashTree.model g.X.Subject.holds g.X.Subject.is_ahead s.tour s.kept s.path x i lt in
     let listed = subst (IsPath (g.X.FlashTree.model w.flash_tree) w) last next.listed in
-    let row = c.row_ahead-row.ensures w.flash_tree (origin_of w.seen) holds beyond.are listed.1 in
+    let row = (rw c.walk.ensures at (rw c.flash_tree-flash_tree.ensures at c.row_ahead-row.ensures)) holds beyond.are listed.1 in
     let new : Rowed g.row.X.Denot = record { walk = w; phase = s.tour.phase; last = with_last s.path (x.next + 1) } in
     let old : Rowed g.row.X.Denot = record { walk = w; phase = s.tour.phase; last = with_last s.path x.next } in
     let is : old ≡ c.args.self.now =
@@ -37,10 +37,10 @@ returns-in-Some-clause-finds g c =
     let P : Rowed g.row.X.Denot → Option g.X.Subject.Shown → Type 0 =
     λ z found. FindsRow g.X.Subject.subject g.X.FlashTree.model g.X.Subject.begins g.X.Subject.choice g.X.Subject.key_of z found new in
     let Q : List ℕ → g.X.Subject.Shown → Type 0 =
-    λ l r. IsRowAt g.X.Subject.subject g.X.Subject.begins g.X.Subject.choice g.X.Subject.key_of w.flash_tree (origin_of w.seen) l r in
+    λ l r. IsRowAt g.X.Subject.subject g.X.Subject.begins g.X.Subject.choice g.X.Subject.key_of w.flash_tree l r in
     subst (λ z. P z (option_map g.X.Subject.shown c.row_ahead-row.result)) is
     (some_found g.X.Subject.shown (Q (s.path ++ x.next ∷ [])) (P old) c.row_ahead-row.result row
-    (λ r at. (next, subst (λ l. Q l r) (sym last) at, record { flash_tree = refl; bound = refl; origin = refl }, going)))
+    (λ r at. (next, subst (λ l. Q l r) (sym last) at, record { flash_tree = refl; bound = refl }, going)))
 
 -- ---- the next node
 
@@ -110,7 +110,7 @@ returns-clause-finds g c =
     let outcome = rw c.walk-walk.ensures at c.row-row.ensures.outcome in
     let row = g.X.Subject.shown c.row-row.result in
     let at = row_back g.X.Subject.subject g.X.FlashTree.model g.X.Subject.begins g.X.Subject.choice g.X.Subject.key_of g.met.X.Subject.are_keys s.tour.walk new v.1 new.path row (key, outcome) in
-    let P : List ℕ → Type 0 = λ l. IsRowAt g.X.Subject.subject g.X.Subject.begins g.X.Subject.choice g.X.Subject.key_of s.tour.walk.flash_tree (origin_of s.tour.walk.seen) l row in
+    let P : List ℕ → Type 0 = λ l. IsRowAt g.X.Subject.subject g.X.Subject.begins g.X.Subject.choice g.X.Subject.key_of s.tour.walk.flash_tree l row in
     rw (sym c.self.view_is) (next, subst P (sym last) at, v.1, v.2)
 
 -- ---- or there is none

@@ -4,7 +4,8 @@ use Rattle.std.specs.Prelude.{option_map}
 use Rattle.mc_flash.specs.{Flash.{Content, size_of}, Geometry.{Geometry}, declared.op.Slot.TheVariants.{Primary, Secondary}}
 use Rattle.mc_boot.specs.{Plan.{identity_of}, declared.image.ImageId.{ImageId}}
 use Rattle.mc_image.specs.Valid.{id_of}
-use Rattle.mc_start.specs.Start.{IsKnown, of_flash}
+use Rattle.mc_start.specs.Start.{of_flash}
+use Rattle.mc_start.proofs.Starts.{known}
 use Rattle.mc_start.proofs.start.Start.from_flash.Goals as goal
 
 right_size : (g : Geometry) (bytes low high : List ℕ) (p s : ℕ) (content : Content) → p ≡ size_of g Primary → s ≡ size_of g Secondary → length bytes ≡ p + s → low ≡ take p bytes → high ≡ drop p bytes
@@ -19,11 +20,6 @@ returns c =
       right_size c.args.layout.now c.args.bytes.now _ _ _ _ _ c.size-primary.ensures.value c.size-secondary.ensures.value c.if-bytes-primary.false parts.front parts.back c.in_ok-of.ensures,
       refl,
     )
-
--- What is known of some bytes is known of those that are the same.
-known : (bytes same : List ℕ) (o : Option ImageId) → option_map identity_of o ≡ id_of bytes → same ≡ bytes → IsKnown same o
-known bytes same None given is = tt
-known bytes same (Some id) given is = ap id_of is ∙ sym given
 
 pub invariant_of-result : goal.invariant_of-result
 invariant_of-result c =

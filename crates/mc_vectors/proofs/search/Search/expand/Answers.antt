@@ -4,7 +4,7 @@ use Rattle.mc_explore.specs.facts.Children.{HasCome, IsAtChild, can_pass, come_o
 use Rattle.mc_start.specs.Start.{begun}
 use Rattle.mc_vectors.proofs.{Arrived.{at_child, model_of, width_at}, Extended.{finished}, search.Search.expand.Given.{Over}}
 use Rattle.mc_vectors.proofs.search.Search.expand.Goals as goal
-use Rattle.mc_vectors.proofs.search.Search.expand.Goals.{In-Ok}
+use Rattle.mc_vectors.proofs.search.Search.expand.Goals.{In_ok-go_to_child}
 
 pub go_to_child-requires-clause-stands : goal.go_to_child-requires-clause-stands
 go_to_child-requires-clause-stands g c = c.loop-number.invariant.come.stands
@@ -17,16 +17,16 @@ go_to_child-requires-clause-passed g c =
     c.loop-number.invariant.come
 
 -- The walk stands at that child.
-child : (g : Over) (c : In-Ok g) → IsAtChild model_of c.in_ok-walk.walk c.loop-number.number c.go_to_child.new.walk
+child : (g : Over) (c : In_ok-go_to_child g) → IsAtChild model_of c.in_ok-walk.walk c.loop-number.number c.go_to_child.new.walk
 child g c =
     let walk = c.in_ok-walk.walk in
     let all = width_here model_of walk c.flash_tree.result c.summary.result.now c.width-count.result c.flash_tree.ensures c.summary.ensures c.width-count.ensures in
     reached model_of walk c.in_ok-walk.ensures.at.listed c.loop-number.number (omega (arith, c.loop-number-test.true, all)) c.in_ok-walk.ensures.more c.loop-number.walk
-    c.loop-number.invariant.come c.go_to_child.new.walk c.in-Ok.ensures.reaches c.in-Ok.ensures.limits
+    c.loop-number.invariant.come c.go_to_child.new.walk c.in_ok-go_to_child.ensures.reaches c.in_ok-go_to_child.ensures.limits
 
 pub visit-requires-clause-at : goal.visit-requires-clause-at
 visit-requires-clause-at g c =
-    let x = (goal.at.visit-requires-clause-at g c).In-Ok in
+    let x = (goal.at.visit-requires-clause-at g c).In_ok-go_to_child in
     let walk = c.in_ok-walk.walk in
     let all = width_here model_of walk c.flash_tree.result c.summary.result.now c.width-count.result c.flash_tree.ensures c.summary.ensures c.width-count.ensures in
     at_child (begun c.args.start.now) c.args.case.now.schedule walk c.go_to_child.new.walk c.loop-number.number c.in_ok-walk.ensures.at (omega (arith, c.loop-number-test.true, all))
@@ -34,7 +34,7 @@ visit-requires-clause-at g c =
 
 pub loop-number-preserved : goal.loop-number-preserved
 loop-number-preserved g c =
-    let x = (goal.at.loop-number-preserved g c).In-Ok in
+    let x = (goal.at.loop-number-preserved g c).In_ok-go_to_child in
     let n : ℕ = c.loop-number.number in
     let walk = c.in_ok-walk.walk in
     let at = c.go_to_child.new.walk in

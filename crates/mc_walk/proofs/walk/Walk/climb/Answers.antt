@@ -70,7 +70,7 @@ returns-clause-step g c =
     subst (λ (z : Walked g.row.B.Denot). Climbs (g.B.FlashTree.model z.flash_tree) z true (walked w.flash_tree w.bound new c.next_sibling.new.frames.items (Some c.in_ok-summary.summary)))
     c.self.view_is
     (climbed k w.flash_tree w.bound old new w.frames.items l.is.before c.next_sibling.new.frames.items l.is.frame next.0 w.summary c.in_ok-summary.summary l.going.stands.stacked l.is.last
-    next.2 next.1 h.origin)
+    next.2 next.1)
 
 pub returns-clause-spends : goal.returns-clause-spends
 returns-clause-spends g c =
