@@ -17,7 +17,7 @@ use Rattle.mc_campaign.specs.{declared.rounds.Both.{Both}, declared.rounds.TwoRo
 -- ---- labels along a path
 
 module _ {N L : Type 0} (t : Tree N) (name : N → ℕ → L) where
-  labelled-push : (s : N) (l : List ℕ) (i : ℕ) → labelled t name s (l ++ i ∷ []) ≡ labelled t name s l ++ name (landed t s l) i ∷ []
+  pub labelled-push : (s : N) (l : List ℕ) (i : ℕ) → labelled t name s (l ++ i ∷ []) ≡ labelled t name s l ++ name (landed t s l) i ∷ []
   labelled-push s [] i = refl
   labelled-push s (x ∷ l) i = ap (λ z. name s x ∷ z) (labelled-push (t.child s x) l i)
 

@@ -7,3 +7,4 @@ mod Loaded
 pub mod Replays
 mod Along
 pub mod Reading
+mod LastCuts

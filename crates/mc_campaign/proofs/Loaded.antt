@@ -1,7 +1,7 @@
 -- The room of a flash that was loaded for two rounds.
 use Rattle.std.specs.Prelude.{◌≡◌, ℕ, ◌+◌, ◌*◌, ◌≤◌}
 use Rattle.std.proofs.{Common.{arith, sym, ap}, Math.Nat.{mul-le-mul_right}}
-use Rattle.mc_flash.specs.{Usage.{Limits, limits_for, most_operations, most_saved, no_counts, Seen, Allows, LeaveRoom}}
+use Rattle.mc_flash.specs.Usage.{Limits, limits_for, most_operations, most_saved, no_counts, Seen, Allows, LeaveRoom}
 use Rattle.mc_boot.specs.Plan.{PowerOn}
 use Rattle.mc_walk.specs.inner.Stack.{most_at}
 use Rattle.mc_boot.specs.Restart.{one_write}

@@ -1,15 +1,16 @@
 -- Where what lies below a child of two rounds lies among what lies below its parent.
-use Rattle.std.proofs.Common.{Bool, IfSome, List, None, Option, Some, ap, arith, length, refl, subst, suc, sym, zero, ℕ, ◌+◌, ◌-◌, ◌<◌, ◌∙◌, ◌≡◌, ◌≤◌}
+use Rattle.std.proofs.lemmas.Bool.{cases_lt}
+use Rattle.std.proofs.Common.{Bool, IfSome, inl, inr, List, [], ◌++◌, ◌∷◌, None, Option, Some, ap, arith, length, refl, subst, suc, sym, zero, ℕ, ◌+◌, ◌-◌, ◌<◌, ◌∙◌, ◌≡◌, ◌≤◌, ◌⊎◌}
 use Rattle.mc_boot.specs.{Outcome.{Report, ops_of, shown}, Plan.{PowerOn}, SharedTail.{IsMovedBy, index_in_parent}, declared.boot.Boot.{Boot}}
 use Rattle.mc_boot.specs.{declared.outcome.BootResult.{BootResult}, declared.shared_tail.SharedTail.{SharedTail}, facts.Run.{outcome_defined}}
-use Rattle.mc_campaign.proofs.Ways.{child, later_child, same_start}
+use Rattle.mc_campaign.proofs.Ways.{child, child_began, first_child, later_child, same_start}
 use Rattle.mc_campaign.specs.{Rows.{end_result}, declared.rounds.Both.{Both}, facts.Listed.{end_from, report_from}, facts.Paths.{some_same}}
-use Rattle.mc_campaign.specs.{declared.rounds.ChildBoot.{ChildBoot}, inner.TwoRounds.{later_from, later_number, rounds, second_start, two_rounds_model}}
+use Rattle.mc_campaign.specs.{declared.rounds.ChildBoot.{ChildBoot}, inner.LastCuts.{IsLikeNode, LieIn}, inner.TwoRounds.{began_at, later_from, later_number, rounds, second_start, two_rounds_model}}
 use Rattle.mc_explore.specs.{Right.{judged}, declared.expectation.Expectation.{Expectation}, declared.one_round.Summary.{Summary}}
-use Rattle.mc_explore.specs.{facts.Tails.{placed_at, placed_late}, facts.Totals.{totals_weigh}, inner.OneRound.{GoesOnIn, at_cut, boots, one_round}}
-use Rattle.mc_explore.specs.{inner.Table.{IsTailOf}, inner.Totals.{Totals, report_totals, totals}}
-use Rattle.mc_flash.specs.{Usage.{Seen}}
-use Rattle.mc_tree.specs.{Tree.{RoundNode, round_one, landed, round_two}, facts.Rounds.{child_first, child_second}, facts.Weighed.{from_alike, path_shared}}
+use Rattle.mc_explore.specs.{facts.Tails.{late_index, placed_at}, facts.Totals.{totals_weigh}, inner.OneRound.{GoesOnIn, at_cut, boots, one_round}}
+use Rattle.mc_explore.specs.{inner.LastCuts.{AreLike}, inner.Table.{IsTailOf}, inner.Totals.{Totals, report_totals, totals}}
+use Rattle.mc_flash.specs.Usage.{Seen}
+use Rattle.mc_tree.specs.{Tree.{RoundNode, round_one, landed, round_two}, facts.Order.{landed-push}, facts.Rounds.{child_second}, facts.Weighed.{from_alike, path_shared}}
 use Rattle.mc_tree.specs.inner.Weights.{IsShared, WeighAlike, from, path_tree, weight}
 use Rattle.mc_walk.specs.TreeModel.{IsChildOf}
 use Rattle.mc_campaign.specs.declared.rounds.ChildBoot.TheVariants as child_boots
@@ -31,6 +32,84 @@ module _ (start : PowerOn) (confirms : Bool) where
 
   pub report_is : (s : PowerOn) (summary : Summary) → (one_round start).IsSummary s summary → report_from s ≡ shown summary.outcome
   report_is s summary is = some_same _ _ (sym (outcome_defined s).1 ∙ is.1.outcome_is)
+
+  abbrev next : PowerOn → PowerOn
+  next = second_start confirms
+
+  like_both : (p a q b : RoundNode PowerOn) → p ≡ a → q ≡ b → IsLikeNode a b → IsLikeNode p q
+  like_both p a q b one other like = subst (λ n. IsLikeNode n q) (sym one) (subst (λ n. IsLikeNode a n) (sym other) like)
+
+  -- The children of a child in the first round.
+  module _ (s : PowerOn) (i : ℕ) (x : SharedTail) (goes : GoesOnIn s i x) where
+    abbrev u : PowerOn
+    u = boots.child s i
+
+    there : next u ≡ next s
+    there = same_start confirms s (at_cut s i) goes.left
+
+    many : length (ops_of u) + x.kept ≡ length (ops_of s)
+    many = goes.shared.width
+
+    all : length (ops_of (next u)) ≡ length (ops_of (next s))
+    all = ap (λ (z : PowerOn). length (ops_of z)) there
+
+    -- Those of the second round stand in their order.
+    later_index : (j : ℕ) → length (ops_of u) ≤ j → index_in_parent x j ≡ x.kept + j
+    later_index j le = late_index s u.content x goes.shared j (omega (arith, goes.shared.at_most, le))
+
+    like_at : (j : ℕ) → (j < length (ops_of u)) ⊎ (length (ops_of u) ≤ j) → IsLikeNode (child confirms (round_one u) j) (child confirms (round_one s) (index_in_parent x j))
+    like_at j (inl early) =
+        like_both _ _ _ _ (first_child confirms u j early) (first_child confirms s (index_in_parent x j) (goes.shared.within j early)) (placed_at s u.content x goes.shared j early)
+    like_at j (inr late) =
+        let far : length (ops_of s) ≤ index_in_parent x j = omega (arith, many, later_index j late, late) in
+        let number : index_in_parent x j - length (ops_of s) ≡ j - length (ops_of u) = omega (arith, many, later_index j late, late) in
+        let same : boots.child (next u) (j - length (ops_of u)) ≡ boots.child (next s) (index_in_parent x j - length (ops_of s)) =
+        ap (λ (z : PowerOn). boots.child z (j - length (ops_of u))) there ∙ ap (boots.child (next s)) (sym number) in
+        like_both _ _ _ _ (child_second boots next u j late) (child_second boots next s (index_in_parent x j) far) same
+
+    pub first_lies : LieIn confirms (round_one s) (round_one u) x
+    first_lies = record {
+      width = omega (arith, many, all);
+      at_most = omega (arith, goes.shared.at_most);
+      within = λ j lt. within_at j lt (cases_lt j (length (ops_of u)));
+      like = λ j lt. like_at j (cases_lt j (length (ops_of u)));
+    }
+      where
+        within_at : (j : ℕ) → j < length (ops_of u) + length (ops_of (next u)) → (j < length (ops_of u)) ⊎ (length (ops_of u) ≤ j)
+            → index_in_parent x j < length (ops_of s) + length (ops_of (next s))
+        within_at j lt (inl early) = omega (arith, goes.shared.within j early)
+        within_at j lt (inr late) = omega (arith, lt, many, all, later_index j late)
+
+  -- Those of a child in the second round: of a node of the second, or of one of the first, among whose children those of the first round
+  -- stand before it.
+  module _ (v : PowerOn) (i : ℕ) (x : SharedTail) (goes : GoesOnIn v i x) where
+    abbrev w : PowerOn
+    w = boots.child v i
+
+    pub second_lies : (began : PowerOn) → LieIn confirms (round_two began v) (round_two began w) x
+    second_lies began = record {
+      width = goes.shared.width;
+      at_most = goes.shared.at_most;
+      within = goes.shared.within;
+      like = placed_at v w.content x goes.shared;
+    }
+
+    pub moved_lies : (s : PowerOn) (y : SharedTail) → v ≡ next s → IsMovedBy (length (ops_of s)) x y → LieIn confirms (round_one s) (round_two s w) y
+    moved_lies s y is moved =
+        let first_count : ℕ = length (ops_of s) in
+        let far : (n : ℕ) → child confirms (round_one s) (n + first_count) ≡ round_two s (boots.child v n) =
+        λ n.
+        let back : n + first_count - first_count ≡ n = omega arith in
+        child_second boots next s (n + first_count) (omega arith) ∙ ap (λ (m : ℕ). round_two s (boots.child (next s) m)) back
+        ∙ ap (λ (z : PowerOn). round_two s (boots.child z n)) (sym is) in
+        record {
+          width = omega (arith, goes.shared.width, moved.kept_is, ap (λ z. length (ops_of z)) is);
+          at_most = omega (arith, goes.shared.at_most, moved.erases_is);
+          within = λ j lt. omega (arith, moved.index_is j, goes.shared.within j lt, ap (λ z. length (ops_of z)) is);
+          like = λ j lt.
+              like_both (child confirms (round_two s w) j) (round_two s (boots.child w j)) (child confirms (round_one s) (index_in_parent y j)) (round_two s (boots.child v (index_in_parent x j))) refl
+              (ap (child confirms (round_one s)) (moved.index_is j) ∙ far (index_in_parent x j)) (placed_at v w.content x goes.shared j lt);
+        }
 
   -- What lies below them.
   module _ (e : Expectation) where
@@ -54,85 +133,51 @@ module _ (start : PowerOn) (confirms : Bool) where
         ap (λ (x : Totals). totals.merged x (from totals (λ i. weight totals (rounds confirms) own k (round_two a (boots.child v i))) (length (ops_of v)) 0)) here
         ∙ ap (totals.merged (own (round_two b v))) below
 
-    same_node : (p q : RoundNode PowerOn) → p ≡ q → Alike p q
-    same_node p q is k = ap (weight totals (rounds confirms) own k) is
+    -- So do like nodes, where that is so of those of the second round.
+    like_weigh : (p q : RoundNode PowerOn) → IsLikeNode p q → (report_from (began_at p)).result ≡ (report_from (began_at q)).result → Alike p q
+    like_weigh (round_one x) (round_one y) like same k = ap (λ z. weight totals (rounds confirms) own k (round_one z)) like
+    like_weigh (round_one x) (round_two began y) like same k = absurd like
+    like_weigh (round_two began x) (round_one y) like same k = absurd like
+    like_weigh (round_two began x) (round_two other y) like same k = same_second began other same k x ∙ ap (λ z. weight totals (rounds confirms) own k (round_two other z)) like
 
-    -- A child of the first round.
-    module _ (s : PowerOn) (i : ℕ) (x : SharedTail) (goes : GoesOnIn s i x) (same : (report_from (boots.child s i)).result ≡ (report_from s).result) where
-      abbrev u : PowerOn
-      u = boots.child s i
+    -- And their children, where the first rounds of both end alike.
+    pub lies_shared : (p q : RoundNode PowerOn) (x : SharedTail) → LieIn confirms p q x → (report_from (began_at q)).result ≡ (report_from (began_at p)).result
+        → IsShared totals (rounds confirms) own p q x.kept x.erases (index_in_parent x)
+    lies_shared p q x lie same = record {
+      width = lie.width;
+      at_most = lie.at_most;
+      within = λ j lt. lie.within j (omega (arith, lt, lie.at_most));
+      early = λ j lt. child_weighs p q j (index_in_parent x j) (lie.like j (omega (arith, lt, lie.at_most))) same;
+      late = λ j le lt.
+          let at : index_in_parent x j ≡ x.kept + j = grind arith in
+          child_weighs p q j (x.kept + j) (subst (λ n. IsLikeNode (child confirms q j) (child confirms p n)) at (lie.like j lt)) same;
+    }
+      where
+        child_weighs : (p q : RoundNode PowerOn) (j n : ℕ) → IsLikeNode (child confirms q j) (child confirms p n)
+            → (report_from (began_at q)).result ≡ (report_from (began_at p)).result → Alike (child confirms q j) (child confirms p n)
+        child_weighs p q j n like same = like_began (child confirms q j) (child confirms p n) like (child_began confirms q j) (child_began confirms p n)
+          where
+            like_began : (a b : RoundNode PowerOn) → IsLikeNode a b → ((s v : PowerOn) → a ≡ round_two s v → s ≡ began_at q) → ((s v : PowerOn) → b ≡ round_two s v → s ≡ began_at p) → Alike a b
+            like_began (round_one x) (round_one y) like of other = like_weigh (round_one x) (round_one y) like (ap (λ z. (report_from z).result) like)
+            like_began (round_one x) (round_two began y) like of other = absurd like
+            like_began (round_two began x) (round_one y) like of other = absurd like
+            like_began (round_two s x) (round_two z y) like of other =
+                like_weigh (round_two s x) (round_two z y) like (ap (λ r. (report_from r).result) (of s x refl) ∙ same ∙ sym (ap (λ r. (report_from r).result) (other z y refl)))
 
-      abbrev next : PowerOn → PowerOn
-      next = second_start confirms
-
-      there : next u ≡ next s
-      there = same_start confirms s (at_cut s i) goes.left
-
-      early : (j : ℕ) → j < x.erases → Alike (child confirms (round_one u) j) (child confirms (round_one s) (index_in_parent x j))
-      early j lt = grind (arith, placed_at)
-
-      late : (j : ℕ) → x.erases ≤ j → Alike (child confirms (round_one u) j) (child confirms (round_one s) (x.kept + j))
-      late j le = grind (arith, child_first, placed_late, there, same_second)
-
-      pub first_shared : i < length (ops_of s) → IsShared totals (rounds confirms) own (round_one s) (child confirms (round_one s) i) x.kept x.erases (index_in_parent x)
-      first_shared lt = grind (arith, there, early, late)
-
-    -- A child in the second round: of a node of the first, among whose children those of the first round stand before it, or of one of
-    -- the second.
-    module _ (v : PowerOn) (i : ℕ) (x : SharedTail) (goes : GoesOnIn v i x) where
-      abbrev w : PowerOn
-      w = boots.child v i
-
-      pub second_shared : (began : PowerOn) → IsShared totals (rounds confirms) own (round_two began v) (round_two began w) x.kept x.erases (index_in_parent x)
-      second_shared began = grind (arith, placed_at, placed_late)
-
-      pub moved_shared : (s : PowerOn) (y : SharedTail) → v ≡ second_start confirms s → IsMovedBy (length (ops_of s)) x y
-          → IsShared totals (rounds confirms) own (round_one s) (round_two s w) y.kept y.erases (index_in_parent y)
-      moved_shared s y is moved =
-          let first_count : ℕ = length (ops_of s) in
-          let far : (n : ℕ) → child confirms (round_one s) (n + first_count) ≡ round_two s (boots.child v n) =
-          λ n.
-          let back : n + first_count - first_count ≡ n = omega arith in
-          child_second boots (second_start confirms) s (n + first_count) (omega arith) ∙ ap (λ (m : ℕ). round_two s (boots.child (second_start confirms s) m)) back
-          ∙ ap (λ (z : PowerOn). round_two s (boots.child z n)) (sym is) in
-          record {
-            width = omega (arith, goes.shared.width, moved.kept_is, ap (λ z. length (ops_of z)) is);
-            at_most = omega (arith, goes.shared.at_most, moved.erases_is);
-            within = λ j lt.
-                omega (arith, moved.index_is j, goes.shared.within j (omega (arith, lt, goes.shared.at_most, moved.erases_is)), ap (λ z. length (ops_of z)) is);
-            early = λ j lt. same_node _ _ (ap (λ (z : PowerOn). round_two s z) (placed_at v w.content x goes.shared j (omega (arith, lt, goes.shared.at_most, moved.erases_is)))
-                ∙ sym (far (index_in_parent x j)) ∙ ap (child confirms (round_one s)) (sym (moved.index_is j)));
-            late = λ j le lt.
-                let number : x.kept + j + first_count ≡ y.kept + j = omega (arith, moved.kept_is) in
-                same_node _ _ (ap (λ (z : PowerOn). round_two s z) (placed_late v w.content x goes.shared j (omega (arith, le, moved.erases_is)) lt)
-                ∙ sym (far (x.kept + j)) ∙ ap (child confirms (round_one s)) number);
-          }
-
-  -- As nodes at the ends of paths.
+  -- As what a walk finds.
   module _ (parent child_summary : Both) (seen : Seen) where
-    -- Of a child that is on that way, what lies below it is placed so.
+    -- Of a child that is on that way, the children lie so.
     abbrev pub AreTails : ChildBoot → SharedTail → Type 0
-    AreTails at x =
-        (e : Expectation) (path : List ℕ) (i : ℕ) → IsChildOf (two_rounds_model start confirms) (landed (rounds confirms) (round_one start) path) i at parent child_summary seen
-        → IsTailOf (path_tree (rounds confirms) (round_one start)) (λ l. end_from confirms (landed (rounds confirms) (round_one start) l)) e path i x
+    AreTails at x = (p : RoundNode PowerOn) (i : ℕ) → IsChildOf (two_rounds_model start confirms) p i at parent child_summary seen → LieIn confirms p (child confirms p i) x
 
-    by_node : (e : Expectation) (path : List ℕ) (i : ℕ) (x : SharedTail) (p : RoundNode PowerOn) → landed (rounds confirms) (round_one start) path ≡ p
-        → IsShared totals (rounds confirms) (own e) p (child confirms p i) x.kept x.erases (index_in_parent x)
-        → IsTailOf (path_tree (rounds confirms) (round_one start)) (λ l. end_from confirms (landed (rounds confirms) (round_one start) l)) e path i x
-    by_node e path i x p is shared =
-        path_shared totals totals_weigh (rounds confirms) (round_one start) (own e) path i x.kept x.erases (index_in_parent x)
-        (subst (λ q. IsShared totals (rounds confirms) (own e) q (child confirms q i) x.kept x.erases (index_in_parent x)) (sym is) shared)
-
-    pub tails_first : (boot : Boot) (ops : ℕ) (later : Summary) (found : Option SharedTail) → child_summary.first.outcome.result ≡ parent.first.outcome.result
+    pub tails_first : (boot : Boot) (ops : ℕ) (later : Summary) (found : Option SharedTail)
         → IfSome found (λ x. (s : PowerOn) (i : ℕ) → IsChildOf (one_round start) s i boot parent.first child_summary.first seen → GoesOnIn s i x)
         → IfSome found (AreTails (child_boots.First boot ops later))
-    tails_first boot ops later None same tails = tt
-    tails_first boot ops later (Some x) same tails = λ e path i here.
-        let at = first_child_of parent child_summary seen i (landed (rounds confirms) (round_one start) path) boot ops later here in
-        let is = at.2 in
-        let result = ap (λ (o : Report). o.result) (report_is (boots.child at.0 i) child_summary.first is.child_is) ∙ same ∙ sym (ap (λ (o : Report). o.result) (report_is at.0 parent.first
-        is.parent_is)) in
-        by_node e path i x (round_one at.0) at.1 (first_shared e at.0 i x (tails at.0 i is) result is.some)
+    tails_first boot ops later None tails = tt
+    tails_first boot ops later (Some x) tails = λ p i here.
+        let at = first_child_of parent child_summary seen i p boot ops later here in
+        let there : child confirms p i ≡ round_one (boots.child at.0 i) = ap (λ q. child confirms q i) at.1 ∙ first_child confirms at.0 i at.2.some in
+        subst (λ q. LieIn confirms p q x) (sym there) (subst (λ q. LieIn confirms q (round_one (boots.child at.0 i)) x) (sym at.1) (first_lies at.0 i x (tails at.0 i at.2)))
 
     pub tails_later : (boot : Boot) (x : SharedTail) (found : Option SharedTail)
         → ((s : PowerOn) (i : ℕ) → IsChildOf (one_round start) s i boot parent.second child_summary.second seen → GoesOnIn s i x)
@@ -140,22 +185,40 @@ module _ (start : PowerOn) (confirms : Bool) where
         → (parent.round ≡ rounds_of.Second → found ≡ Some x)
         → IfSome found (AreTails (child_boots.Second boot))
     tails_later boot x None goes moved same = tt
-    tails_later boot x (Some y) goes moved same = λ e path i here.
-        by e i (landed (rounds confirms) (round_one start) path) here path refl
+    tails_later boot x (Some y) goes moved same = λ p i here. by p i here
       where
-        by : (e : Expectation) (i : ℕ) (p : RoundNode PowerOn) → IsChildOf (two_rounds_model start confirms) p i (child_boots.Second boot) parent child_summary seen → (path : List ℕ)
-            → landed (rounds confirms) (round_one start) path ≡ p
-            → IsTailOf (path_tree (rounds confirms) (round_one start)) (λ l. end_from confirms (landed (rounds confirms) (round_one start) l)) e path i y
-        by e i (round_one s) here path is =
+        by : (p : RoundNode PowerOn) (i : ℕ) → IsChildOf (two_rounds_model start confirms) p i (child_boots.Second boot) parent child_summary seen → LieIn confirms p (child confirms p i) y
+        by (round_one s) i here =
             let at = later_child_of parent child_summary seen i (round_one s) boot here in
-            let v : PowerOn = second_start confirms s in
-            let number : ℕ = later_number (round_one s) i in
-            by_node e path i y (round_one s) is
-            (subst (λ q. IsShared totals (rounds confirms) (own e) (round_one s) q y.kept y.erases (index_in_parent y)) (sym (later_child confirms (round_one s) i here.at_is.on_is.0))
-            (moved_shared e v number x (goes v number at) s y refl (moved s here.parent_is.first_is here.parent_is.round_is)))
-        by e i (round_two began v) here path is =
+            subst (λ q. LieIn confirms (round_one s) q y) (sym (later_child confirms (round_one s) i here.at_is.on_is.0))
+            (moved_lies (next s) (later_number (round_one s) i) x (goes (next s) (later_number (round_one s) i) at) s y refl (moved s here.parent_is.first_is here.parent_is.round_is))
+        by (round_two began v) i here =
             let at = later_child_of parent child_summary seen i (round_two began v) boot here in
             let unmoved : y ≡ x = some_same y x (same here.parent_is.round_is) in
-            by_node e path i y (round_two began v) is
-            (subst (λ z. IsShared totals (rounds confirms) (own e) (round_two began v) (round_two began (boots.child v i)) z.kept z.erases (index_in_parent z)) (sym unmoved)
-            (second_shared e v i x (goes v i at) began))
+            subst (λ z. LieIn confirms (round_two began v) (round_two began (boots.child v i)) z) (sym unmoved) (second_lies v i x (goes v i at) began)
+
+    -- What lies below a child, where the first rounds end alike.
+    pub tail_weighs : (at : ChildBoot) (found : Option SharedTail) → child_summary.first.outcome.result ≡ parent.first.outcome.result → IfSome found (AreTails at)
+        → IfSome found (λ x. (e : Expectation) (path : List ℕ) (i : ℕ) → IsChildOf (two_rounds_model start confirms) (landed (rounds confirms) (round_one start) path) i at parent child_summary seen
+        → IsTailOf (path_tree (rounds confirms) (round_one start)) (λ l. end_from confirms (landed (rounds confirms) (round_one start) l)) e path i x)
+    tail_weighs at None same tails = tt
+    tail_weighs at (Some x) same tails = λ e path i here.
+        let p : RoundNode PowerOn = landed (rounds confirms) (round_one start) path in
+        let q : RoundNode PowerOn = child confirms p i in
+        let result = ap (λ (o : Report). o.result) (report_is (began_at q) child_summary.first here.child_is.first_is) ∙ same
+        ∙ sym (ap (λ (o : Report). o.result) (report_is (began_at p) parent.first here.parent_is.first_is)) in
+        path_shared totals totals_weigh (rounds confirms) (round_one start) (own e) path i x.kept x.erases (index_in_parent x) (lies_shared e p q x (tails p i here) result)
+
+    -- As paths.
+    pub tail_likes : (at : ChildBoot) (found : Option SharedTail) → IfSome found (AreTails at)
+        → IfSome found (λ x. (path : List ℕ) (i : ℕ) → IsChildOf (two_rounds_model start confirms) (landed (rounds confirms) (round_one start) path) i at parent child_summary seen
+        → AreLike (two_rounds_model start confirms) (λ l m. IsLikeNode (landed (rounds confirms) (round_one start) l) (landed (rounds confirms) (round_one start) m)) path (path ++ i ∷ []) x)
+    tail_likes at None tails = tt
+    tail_likes at (Some x) tails = λ path i here.
+        let node : List ℕ → RoundNode PowerOn = landed (rounds confirms) (round_one start) in
+        let push = landed-push (rounds confirms) (round_one start) in
+        let lie = subst (λ q. LieIn confirms (node path) q x) (sym (push path i)) (tails (node path) i here) in
+        record {
+          within = lie.within;
+          like = λ j lt. like_both _ _ _ _ (push (path ++ i ∷ []) j) (push path (index_in_parent x j)) (lie.like j lt);
+        }

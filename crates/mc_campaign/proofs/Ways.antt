@@ -1,5 +1,5 @@
 -- From one node of two rounds to another.
-use Rattle.std.specs.Prelude.{◌≡◌, ℕ, ◌<◌, Bool, length, Option, Some, refl}
+use Rattle.std.specs.Prelude.{◌≡◌, ℕ, ◌-◌, ◌<◌, nat_lt, if◌then◌else◌, Bool, true, false, length, Option, Some, refl}
 use Rattle.std.proofs.Common.{arith, sym, ap, ◌∙◌}
 use Rattle.mc_tree.specs.{Tree.{RoundNode, round_one, round_two, two_rounds_child, two_rounds_width}, facts.Rounds.{child_first, child_second}}
 use Rattle.mc_flash.specs.{Flash.{Content}, Usage.{Seen}}
@@ -24,6 +24,15 @@ module _ (confirms : Bool) where
   pub later_child : (p : RoundNode PowerOn) (i : ℕ) → IsLater p i → child p i ≡ round_two (began_at p) (boots.child (later_from confirms p) (later_number p i))
   later_child (round_one s) i le = child_second boots (second_start confirms) s i le
   later_child (round_two began s) i le = refl
+
+  -- A child in the second round is of the same first round as its node.
+  pub child_began : (p : RoundNode PowerOn) (i : ℕ) (s v : PowerOn) → child p i ≡ round_two s v → s ≡ began_at p
+  child_began (round_one x) i s v is = by (nat_lt i (length (ops_of x))) is
+    where
+      by : (early : Bool) → (if early then round_one (boots.child x i) else round_two x (boots.child (second_start confirms x) (i - length (ops_of x)))) ≡ round_two s v → s ≡ x
+      by true is = absurd cc
+      by false is = cc
+  child_began (round_two began x) i s v is = cc
 
   -- ---- between the rounds
 

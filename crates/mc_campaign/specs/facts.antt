@@ -4,3 +4,4 @@ pub mod Room
 pub mod Paths
 pub mod Listed
 pub mod Keys
+pub mod Tails

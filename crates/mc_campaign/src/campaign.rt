@@ -1,5 +1,5 @@
 //! Campaigns of power cuts.
-ghost use Rattle.std.specs.Prelude.{◌≡◌, ◌↔◌, ℕ, List, ◌+◌, ◌*◌, ◌<◌, ◌≤◌, ◌^◌, [], ◌∷◌, ◌++◌, length, decimal, true, Some, Ok, IfOk, OnOk, OnErr, MatchResult};
+ghost use Rattle.std.specs.Prelude.{◌≡◌, ◌↔◌, ℕ, List, ◌+◌, ◌*◌, ◌<◌, ◌≤◌, ◌^◌, [], ◌∷◌, ◌++◌, length, decimal, is_some, true, Some, Ok, IfOk, IfSome, OnOk, OnErr, MatchResult};
 ghost use Rattle.mc_tree.specs.Tree.{Before};
 ghost use Rattle.mc_campaign.specs.Campaigns.{IsInOrder, Precedes, in_round, number_of};
 ghost use Rattle.mc_campaign.specs.Texts.{campaign_text, cut_text, FitsCut, IsAdded, IsCampaign, IsCut, ReadsCampaign};
@@ -160,6 +160,24 @@ impl Campaign {
     {
         self.cuts[self.len] = (round, index);
         self.len += 1;
+    }
+
+    /// The same with one cut more, where there is room for it and none of a later round stands before it.
+    pub(crate) fn with(&self, round: Round, index: u32) -> Option<Campaign>
+        ensures more { IfSome result (λ more. more ≡ self.now ++ (number_of round, index) ∷ []) }
+        ensures some { length self.now < 16 → IsInOrder (self.now ++ (number_of round, index) ∷ [])
+            → is_some result ≡ true }
+    {
+        let round = round.number();
+        if self.len == MOST_CUTS {
+            return None;
+        }
+        if self.last_round() > round {
+            return None;
+        }
+        let mut more = *self;
+        more.push(round, index);
+        Some(more)
     }
 
     /// How many cuts it has, in both rounds.

@@ -6,12 +6,13 @@ ghost use Rattle.mc_campaign.specs.inner.View.{begun_of};
 use crate::campaign::Campaign;
 use crate::campaign_path;
 use crate::cursor::CampaignCursor;
+use crate::last_cuts::{Ahead, Ends, tell_campaigns};
 use crate::rounds::TwoRounds;
 use crate::row::CampaignRow;
 use mc_boot::{Outcome, restart_law};
 use mc_explore::{
-    Countable, Fields, Labels, Line, OfStart, OneRound, RowsAhead, Schedule, Start, Subject,
-    TreeExplorer, load_walk,
+    AtCuts, Countable, Fields, Labels, Line, OfStart, OneRound, RowsAhead, Schedule, Start,
+    Subject, TreeExplorer, load_walk,
 };
 use mc_flash::Flash;
 use mc_walk::Walk;
@@ -23,7 +24,7 @@ use std::alloc::{AllocError, Global};
 pub type CampaignExplorer<'a, F> = TreeExplorer<'a, F, TwoRounds<'a>>;
 
 // The campaign of the path at whose end a walk stands.
-fn campaign_at<F: Flash>(walk: &Walk<F, TwoRounds<'_>>) -> Campaign
+pub(crate) fn campaign_at<F: Flash>(walk: &Walk<F, TwoRounds<'_>>) -> Campaign
     requires stands { walk.now.stands ≡ true }
     requires at_most { length walk.now.path ≤ 16 }
     ensures { result ≡ cuts_along walk.now.flash_tree.confirms (begun_of walk.now) walk.now.path }
@@ -48,6 +49,9 @@ impl Subject for TwoRounds<'_> {
     ghost use Rattle.mc_campaign.specs.Texts.{cursor_of, fields_of};
     ghost use Rattle.mc_campaign.specs.Rows.{campaigns};
     ghost use Rattle.mc_campaign.specs.Rows as states;
+    ghost use Rattle.mc_campaign.specs.inner.LastCuts.{AreAhead, AreLikePaths, EndSoAt};
+    ghost use Rattle.mc_campaign.specs.inner.TwoRounds.{model_of};
+    ghost use Rattle.mc_explore.specs.inner.LastCuts.{AreKept};
     ghost use Rattle.mc_campaign.specs.facts.Keys.{are_campaigns, campaign_costs, campaigns_clear, three_more};
     ghost use Rattle.mc_campaign.specs.facts.Listed.{some_rest};
 
@@ -61,10 +65,9 @@ impl Subject for TwoRounds<'_> {
 
     type Cursor = CampaignCursor;
 
-    // Each row comes from the flash, and none ahead.
-    type Kept = ();
+    type Kept = AtCuts<Ends>;
 
-    type Ahead = ();
+    type Ahead = Ahead;
 
     ghost subject = { campaigns };
 
@@ -78,9 +81,9 @@ impl Subject for TwoRounds<'_> {
 
     ghost fields = { fields_of };
 
-    ghost holds = { λ _ _. Unit {0} };
+    ghost holds = { λ t kept. AreKept (model_of t) (AreLikePaths t) (EndSoAt t) kept };
 
-    ghost is_ahead = { λ _ _ _ _ _. ⊥ };
+    ghost is_ahead = { λ t kept path ahead count. AreAhead t kept path ahead count };
 
     ghost more = { 3 };
 
@@ -118,20 +121,33 @@ impl Subject for TwoRounds<'_> {
         }
     }
 
-    fn kept(self, _alloc: Global, _bound: u8) -> Result<(), AllocError> {
-        Ok(())
+    fn kept(self, alloc: Global, bound: u8) -> Result<AtCuts<Ends>, AllocError> {
+        AtCuts::of(alloc, self.one_round.start, 2, bound)
     }
 
     fn arrive<F: Flash>(
-        _kept: &mut (),
-        _walk: &Walk<F, Self>,
-        _path: &Schedule,
-    ) -> Option<RowsAhead<()>> {
-        None
+        kept: &mut AtCuts<Ends>,
+        walk: &Walk<F, Self>,
+        path: &Schedule,
+    ) -> Option<RowsAhead<Ahead>> {
+        tell_campaigns(kept, walk, path)
     }
 
-    fn row_ahead(self, _kept: &(), _path: &Schedule, _rows: &RowsAhead<()>) -> Option<CampaignRow> {
-        None
+    #[inline]
+    fn row_ahead(
+        self,
+        kept: &AtCuts<Ends>,
+        _path: &Schedule,
+        rows: &RowsAhead<Ahead>,
+    ) -> Option<CampaignRow> {
+        let told = kept.find(&rows.ahead.shared_tail, rows.next)?;
+        let campaign = rows.ahead.campaign_of(rows.next)?;
+        let Ends { first, second } = rows.ahead.ends_of(rows.next, &told);
+        Some(CampaignRow {
+            campaign,
+            first,
+            second,
+        })
     }
 
     #[inline]

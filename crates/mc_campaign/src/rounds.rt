@@ -26,6 +26,25 @@ pub struct Both {
     pub second: Summary,
 }
 
+impl Both {
+    ghost use Rattle.std.specs.Prelude.{◌≡◌, Bool};
+    ghost use Rattle.mc_boot.specs.Plan.{PowerOn};
+    ghost use Rattle.mc_campaign.specs.inner.LastCuts.{first_width};
+    ghost use Rattle.mc_campaign.specs.inner.TwoRounds.{AreSummaries};
+    ghost use Rattle.mc_tree.specs.Tree.{RoundNode};
+
+    // How many children of the node lie in the first round.
+    pub(crate) fn first_width(&self) -> u32
+        ensures { (start : PowerOn) (confirms : Bool) (p : RoundNode PowerOn)
+            → AreSummaries start confirms p self.now → result ≡ first_width p }
+    {
+        match self.round {
+            Round::First => self.first.outcome.ops,
+            Round::Second => 0,
+        }
+    }
+}
+
 /// A child on its way from a node.
 #[derive(Clone, Copy)]
 pub enum ChildBoot {

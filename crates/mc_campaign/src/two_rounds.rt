@@ -1,10 +1,11 @@
 //! The tree of two rounds of boots: a node lies in one of them, and its children are those of its round, and in the first round
 //! then those of the second round that begins after it.
 use crate::campaign::Round;
+use crate::last_cuts::Ends;
 use crate::rounds::{Both, ChildBoot, TwoRounds, go_between};
 use crate::row::end_by;
 use mc_boot::{Outcome, SharedTail};
-use mc_explore::Ending;
+use mc_explore::{Ending, Joining};
 use mc_flash::Flash;
 use mc_walk::FlashTree;
 use std::alloc::AllocError;
@@ -126,33 +127,30 @@ impl FlashTree for TwoRounds<'_> {
     }
 }
 
-impl Ending for TwoRounds<'_> {
-    ghost use Rattle.mc_tree.specs.Tree.{landed, round_one};
-    ghost use Rattle.mc_explore.specs.inner.OneRound.{begins};
-    ghost use Rattle.mc_campaign.specs.inner.TwoRounds.{rounds};
-    ghost use Rattle.mc_campaign.specs.facts.Listed.{end_from};
-
-    ghost report_of = { λ t path. end_from t.confirms (landed (rounds t.confirms) (round_one (begins
-        t.one_round)) path) };
-
-    fn ended(self, summary: &Both) -> Outcome {
-        end_by(&summary.first.outcome, &summary.second.outcome)
-    }
+impl TwoRounds<'_> {
+    ghost use Rattle.std.specs.Prelude.{ℕ, IfSome};
+    ghost use Rattle.mc_boot.specs.Plan.{PowerOn};
+    ghost use Rattle.mc_campaign.specs.inner.LastCuts.{LieIn};
+    ghost use Rattle.mc_campaign.specs.inner.TwoRounds.{model_of, rounds};
+    ghost use Rattle.mc_tree.specs.Tree.{RoundNode};
+    ghost use Rattle.mc_walk.specs.TreeModel.{HasChild, IsChildOf};
 
     // A child of the first round leaves the same flash as its parent, where its boot goes on with that of the parent; so the nodes of
-    // the second round are those of the parent, and count as those do if the first rounds have the same result.
-    fn shared_tail<F: Flash>(
-        self,
+    // the second round are those of the parent, but for how the first round ended.
+    fn tail_of<F: Flash>(
+        &self,
         flash: &F,
         at: &ChildBoot,
         parent: &Both,
         child: &Both,
-    ) -> Option<SharedTail> {
+    ) -> Option<SharedTail>
+        requires { HasChild (model_of self.now) at.now parent.now child.now (F.seen flash.now) }
+        ensures { IfSome result (λ tail. (p : RoundNode PowerOn) (i : ℕ)
+            → IsChildOf (model_of self.now) p i at.now parent.now child.now (F.seen flash.now)
+            → LieIn self.now.confirms p ((rounds self.now.confirms).child p i) tail) }
+    {
         match at {
             ChildBoot::First { boot, .. } => {
-                if child.first.outcome.result != parent.first.outcome.result {
-                    return None;
-                }
                 self.one_round
                     .tail_of(flash, boot, &parent.first, &child.first)
             }
@@ -166,5 +164,63 @@ impl Ending for TwoRounds<'_> {
                 }
             }
         }
+    }
+}
+
+impl Joining for TwoRounds<'_> {
+    ghost use Rattle.mc_campaign.specs.facts.Tails.{ends_alike};
+    ghost use Rattle.mc_campaign.specs.inner.LastCuts.{AreLikePaths, EndSoAt};
+
+    type Told = Ends;
+
+    ghost IsTold = { λ t. EndSoAt t };
+
+    ghost IsLike = { λ t. AreLikePaths t };
+
+    fn told(self, summary: &Both) -> Ends {
+        Ends {
+            first: summary.first.outcome,
+            second: summary.second.outcome,
+        }
+    }
+
+    fn joined_tail<F: Flash>(
+        self,
+        flash: &F,
+        at: &ChildBoot,
+        parent: &Both,
+        child: &Both,
+    ) -> Option<SharedTail> {
+        self.tail_of(flash, at, parent, child)
+    }
+
+    ghost told_alike = { λ t path other ends. ends_alike t path other ends };
+}
+
+impl Ending for TwoRounds<'_> {
+    ghost use Rattle.mc_tree.specs.Tree.{landed, round_one};
+    ghost use Rattle.mc_explore.specs.inner.OneRound.{begins};
+    ghost use Rattle.mc_campaign.specs.inner.TwoRounds.{rounds};
+    ghost use Rattle.mc_campaign.specs.facts.Listed.{end_from};
+
+    ghost report_of = { λ t path. end_from t.confirms (landed (rounds t.confirms) (round_one (begins
+        t.one_round)) path) };
+
+    fn ended(self, summary: &Both) -> Outcome {
+        end_by(&summary.first.outcome, &summary.second.outcome)
+    }
+
+    // The nodes of the second round count as those of the parent do if the first rounds have the same result.
+    fn shared_tail<F: Flash>(
+        self,
+        flash: &F,
+        at: &ChildBoot,
+        parent: &Both,
+        child: &Both,
+    ) -> Option<SharedTail> {
+        if child.first.outcome.result != parent.first.outcome.result {
+            return None;
+        }
+        self.tail_of(flash, at, parent, child)
     }
 }

@@ -14,3 +14,4 @@ pub mod Counting
 pub mod JudgedRows
 pub mod Rowing
 pub mod Walks
+mod LastCuts

@@ -1,5 +1,5 @@
 -- From one cut of a boot to the next, and the summary of the flash there.
-use Rattle.std.specs.Prelude.{◌≡◌, ℕ, ◌+◌, ◌<◌, List, [], ◌∷◌, length, None, Option, Some, Result, Ok, Err, IfSome, refl}
+use Rattle.std.specs.Prelude.{◌≡◌, ℕ, ◌+◌, ◌<◌, List, [], ◌∷◌, ◌++◌, length, None, Option, Some, Result, Ok, Err, IfSome, refl}
 use Rattle.std.proofs.Common.{arith, sym, ap, subst, ◌∙◌}
 use Rattle.mc_flash.specs.{Flash.{Content}, Geometry.{Geometry}, Usage.{Seen, Keeps, Spends, LeaveRoom, plus}, declared.op.Op.{Op}}
 use Rattle.mc_flash.specs.declared.flash.FlashError.{FlashError}
@@ -10,7 +10,7 @@ use Rattle.mc_boot.specs.{Outcome.{Report, outcome_of, shown, left_by, ops_of}, 
 use Rattle.mc_boot.specs.{Plan.{plan, PowerOn, again, power_on, powered}, facts.Run.{come_begun, come_left, come_ops}}
 use Rattle.mc_boot.specs.{facts.Steps.{refused_here, step_counts, step_spends, stepped_here}, declared.boot.Boot.{Boot}, declared.outcome.Outcome.{Outcome}}
 use Rattle.mc_walk.specs.TreeModel.{IsAt, IsChildOf, HasNext, ReachesNext}
-use Rattle.mc_explore.specs.{inner.OneRound.{at_cut, CanPass, GoesOnIn, IsBegun, IsOf, IsSummary, Passes, one_round}, Schedules.{EndsWith}}
+use Rattle.mc_explore.specs.{facts.Tails.{shared_like}, inner.LastCuts.{AreLike, AreSame, boot_at}, inner.OneRound.{at_cut, CanPass, GoesOnIn, IsBegun, IsOf, IsSummary, Passes, one_round}, Schedules.{EndsWith}}
 use Rattle.mc_explore.specs.{declared.one_round.Summary.{Summary}, facts.Occurring.{at_zero, come_lands}}
 
 -- Where a boot has come there, it has come on to here.
@@ -121,6 +121,15 @@ module _ (start : PowerOn) where
       → IsSharedTail (power_on x.rules y x.content) u tail in
       let here : P x.geometry f.content = subst (λ y. P y f.content) (layout_here x i b b f f at early) (joins x.rules x.content) in
       subst (P x.geometry) at.content_is here (shown parent.outcome) (cut_here x i b f parent at early summary) child_summary.boot_is
+
+  -- And so do its children among those of the parent.
+  pub joins_like : (b : Boot) (child parent : Summary) (f : Seen) (found : Option SharedTail)
+      → ((y : Rules) (v : Content) (whole : Report) → IsCut (power_on y f.geometry v) f.content b whole → progress child.boot ≡ begun y (plan (powered y f))
+      → IfSome found (IsSharedTail (power_on y f.geometry v) f.content))
+      → IfSome found (λ tail. (path : List ℕ) (i : ℕ) → IsChildOf (one_round start) (boot_at start path) i b parent child f → AreLike (one_round start) (AreSame start) path (path ++ i ∷ []) tail)
+  joins_like b child parent f None joins = tt
+  joins_like b child parent f (Some tail) joins = λ path i here.
+      shared_like start path i tail (joined_here (boot_at start path) i b child parent f tail here.at_is here.some here.parent_is.1 here.child_is.1 joins)
 
   -- Where its flashes lie among those of the parent, and both leave the same.
   pub goes_on_here : (b : Boot) (child parent : Summary) (f : Seen) (found : Option SharedTail)

@@ -1,96 +1,20 @@
 -- The next row, by how a tour stands with the last one, also where the outcomes of last cuts are kept.
-use Rattle.std.proofs.{Common.{add-one, ap, arith, length-append, subst, sym, ◌∙◌}, lemmas.Option.{slice_get_cases, slice_get_within}}
+use Rattle.std.proofs.{Common.{add-one, ap, arith, inl, inr, length-append, subst, sym, ◌∙◌}, lemmas.Option.{slice_get_cases, slice_get_within}}
 use Rattle.std.proofs.lemmas.List.{same_from_push}
-use Rattle.std.specs.Prelude.{Bool, IfSome, IsSomeAnd, List, None, Option, Some, [], false, is_some, option_map, length, refl, slice_get, suc, true, zero, ℕ, ◌++◌, ◌+◌, ◌<◌, ◌^◌, ◌∷◌, ◌≡◌, ◌≢◌, ◌≤◌}
+use Rattle.std.specs.Prelude.{Bool, IfSome, IsSomeAnd, List, None, Option, Some, [], false, is_some, option_map, length, refl, slice_get, suc, true, zero, ℕ, ◌++◌, ◌+◌, ◌-◌, ◌<◌, ◌^◌, ◌∷◌, ◌≡◌, ◌≢◌, ◌≤◌, ◌⊎◌}
 use Rattle.mc_boot.specs.{Boot.{begun, progress}, Joins.{IsCut}, Outcome.{Report, ops_of, outcome_of, shown}, Plan.{PowerOn, again, plan, power_on, powered}}
 use Rattle.mc_boot.specs.{SharedTail.{IsSharedTail, index_in_parent}, declared.boot.Boot.{Boot}, declared.outcome.Outcome.{Outcome}}
 use Rattle.mc_boot.specs.declared.shared_tail.SharedTail.{SharedTail}
-use Rattle.mc_explore.proofs.{Counting.{each_more}, Onwards.{joined_here}}
-use Rattle.mc_explore.specs.{declared.ahead.RowsAhead.{RowsAhead}, declared.one_round.OneRound.{OneRound}, declared.one_round.Summary.{Summary}}
+use Rattle.mc_explore.proofs.Onwards.{joined_here}
+use Rattle.mc_explore.specs.{declared.ahead.RowsAhead.{RowsAhead}, declared.at_cuts.AtCuts.{AtCuts}, declared.at_cuts.Joined.{Joined}, declared.one_round.OneRound.{OneRound}, declared.one_round.Summary.{Summary}}
 use Rattle.mc_explore.specs.{facts.Occurring.{at_zero, landed_again}, facts.Tails.{placed_at}, facts.Summaries.{width_is}}
 use Rattle.mc_explore.specs.inner.Exploring.{AreBeyond, AreFresh, IsAtPhase, IsInStep, IsRowing, IsSpent, StandsFor, last_of, with_last}
-use Rattle.mc_explore.specs.{inner.LastCuts.{AreAtCuts, AreLastCuts, boot_at}, inner.OneRound.{IsSummary, begun_of, boots, one_round}}
 use Rattle.mc_flash.specs.Flash.{Content}
 use Rattle.mc_trailer.specs.declared.tables.Rules.{Rules}
-use Rattle.mc_tree.specs.{Tree.{After, IsNext, Position, landed}, facts.Order.{allowed-push, landed-push, next_after, next_below}}
+use Rattle.mc_tree.specs.{Tree.{After, Allowed, IsNext, Position, landed}, facts.Order.{allowed-last, allowed-push, landed-push, next_after, next_below}}
 use Rattle.mc_walk.specs.{TreeModel.{IsAt, TreeModel}, Walks.{IsLastStep, IsPath, IsThere, Toured, Visits, Walked, position_of}}
 use Rattle.mc_walk.specs.{declared.frame.Frame.{Frame}, declared.tour.Phase.{Phase}, declared.tour.Phase.TheVariants.{Broken, Done, Fresh, Going}}
 use Rattle.mc_walk.specs.facts.Same.{path_back, same_back}
-
--- The outcomes at the cuts of one boot, and the rows of the boots that go on with it.
-
-module _ (from : PowerOn) where
-  -- A cut before the first operation leaves the flash as it is.
-  boot_twice : (of : List ℕ) (last : ℕ) → boot_at from ((of ++ 0 ∷ []) ++ last ∷ []) ≡ boots.child (boot_at from of) last
-  boot_twice of last =
-      landed-push boots from (of ++ 0 ∷ []) last ∙ ap (λ x. boots.child x last) (landed-push boots from of 0 ∙ ap (again (boot_at from of)) (sym (at_zero (boot_at from of))))
-
-  pub none_kept : (of : List ℕ) (outcomes : List Outcome) → outcomes ≡ [] → AreAtCuts from of outcomes
-  none_kept of outcomes none i o is = absurd (omega (arith, slice_get_within outcomes i o is, ap length none))
-
-  -- One outcome more.
-  pub kept_more : (of schedule before : List ℕ) (outcomes new : List Outcome) (o : Outcome) (last first : ℕ) → AreAtCuts from of outcomes
-      → outcome_of (boot_at from schedule) ≡ Some (shown o) → schedule ≡ before ++ last ∷ [] → before ≡ of ++ first ∷ [] → first ≡ 0 → length outcomes ≡ last
-      → new ≡ outcomes ++ o ∷ [] → AreAtCuts from of new
-  kept_more of schedule before outcomes new o last first are summary s b f count is =
-      let path : schedule ≡ (of ++ 0 ∷ []) ++ last ∷ [] = s ∙ ap (λ l. l ++ last ∷ []) (b ∙ ap (λ n. of ++ n ∷ []) f) in
-      let here : outcome_of (boots.child (boot_at from of) (length outcomes)) ≡ Some (shown o) =
-      ap (λ n. outcome_of (boots.child (boot_at from of) n)) count ∙ sym (ap (λ l. outcome_of (boot_at from l)) path ∙ ap outcome_of (boot_twice of last)) ∙ summary in
-      subst (AreAtCuts from of) (sym is) (each_more (λ i p. outcome_of (boots.child (boot_at from of) i) ≡ Some (shown p)) outcomes o are here)
-
--- A walk stands after a cut, with that summary.
-module _ (w : Walked OneRound) (f : Frame Boot Summary) (summary : Summary) (of path : List ℕ) (last : ℕ) (step : IsLastStep (one_round (begun_of w)) w f)
-    (there : IsThere (one_round (begun_of w)) w summary) (path_is : path ≡ w.path) (split : path ≡ of ++ last ∷ []) where
-  abbrev start : PowerOn
-  start = begun_of w
-
-  abbrev before : PowerOn
-  before = boot_at start of
-
-  before_is : boot_at start step.before ≡ before
-  before_is = ap (boot_at start) (same_from_push step.before of f.number last (sym step.path_is ∙ sym path_is ∙ split)).0
-
-  here_is : boot_at start path ≡ boots.child before f.number
-  here_is = grind (arith, before_is, landed-push)
-
-  pub last_cuts_there : (outcomes : List Outcome) (tail : SharedTail)
-      → ((y : Rules) (v : Content) (whole : Report) → IsCut (power_on y w.seen.geometry v) w.seen.content f.at whole → progress summary.boot ≡ begun y (plan (powered y w.seen))
-      → IsSharedTail (power_on y w.seen.geometry v) w.seen.content tail)
-      → length outcomes ≡ f.parent.outcome.ops → 1 ≤ summary.outcome.ops → summary.outcome.ops ≤ 2 ^ 31
-      → AreLastCuts start of path outcomes tail summary.outcome.ops
-  last_cuts_there outcomes tail joins whole some small =
-      let at = subst (λ x. IsAt (one_round start) x f.number f.at w.seen) before_is step.at_is in
-      let early = subst (λ x. f.number < length (ops_of x)) before_is step.some in
-      let parent = subst (λ x. IsSummary x f.parent) before_is step.parent_is.1 in
-      let child : IsSummary (boot_at start path) summary = subst (λ l. IsSummary (boot_at start l) summary) (sym path_is) there.summary_is.1 in
-      let with_shared_tail = joined_here start before f.number f.at summary f.parent w.seen tail at early parent (subst (λ x. IsSummary x summary) here_is child) joins in
-      record {
-        number = last;
-        path_is = split;
-        with_shared_tail = subst (λ x. IsSharedTail before x.content tail) (sym here_is) with_shared_tail;
-        count_is = width_is (boot_at start path) summary child;
-        whole = whole ∙ width_is before f.parent parent;
-        some = some;
-        small = small;
-      }
-
--- The outcome after the last of them that is next.
-module _ (x : PowerOn) (of path : List ℕ) (outcomes : List Outcome) (shared_tail : SharedTail) (count next : ℕ) (are : AreLastCuts x of path outcomes shared_tail count) (lt : next < count) where
-  -- The boot after the path is by the same rules as the one after the path without its last cut.
-  path_boot : boot_at x path ≡ again (boot_at x of) (boot_at x path).content
-  path_boot = landed_again x path ∙ ap (λ (y : PowerOn). again y (boot_at x path).content) (sym (landed_again x of))
-
-  pub outcome_there : (found : Option Outcome) → AreAtCuts x of outcomes → found ≡ slice_get outcomes (index_in_parent shared_tail next)
-      → IsSomeAnd found (λ o. outcome_of (boot_at x (path ++ next ∷ [])) ≡ Some (shown o))
-  outcome_there None at is =
-      let early : next < length (ops_of (again (boot_at x of) (boot_at x path).content)) = omega (arith, lt, are.count_is, ap (λ (y : PowerOn). length (ops_of y)) path_boot) in
-      let within = are.with_shared_tail.within next early in
-      grind (arith, slice_get_cases)
-  outcome_there (Some o) at is =
-      let early : next < length (ops_of (again (boot_at x of) (boot_at x path).content)) = omega (arith, lt, are.count_is, ap (λ (y : PowerOn). length (ops_of y)) path_boot) in
-      let flash = landed-push boots x path next ∙ ap (λ y. boots.child y next) path_boot
-      ∙ placed_at (boot_at x of) (boot_at x path).content shared_tail are.with_shared_tail next early in
-      ap outcome_of flash ∙ at (index_in_parent shared_tail next) o (sym is)
 
 -- The next row, by how a tour stands with the last one.
 

@@ -4,7 +4,7 @@ use Rattle.std.specs.Prelude.{Bool, List, None, Option, Some, [], false, is_some
 use Rattle.mc_boot.specs.{Boot.{Progress, left_of, progress}, Outcome.{after, ops_of, shown}, Plan.{PowerOn, again}, facts.Bounds.{few_ops}, facts.Run.{come_left}}
 use Rattle.mc_explore.proofs.Onwards.{ComesOn, of_next}
 use Rattle.mc_explore.specs.{Rows.{subject}, Schedules.{CanOccur, CannotOccurAt, IsReplayed}, declared.one_round.OneRound.{OneRound}}
-use Rattle.mc_explore.specs.{declared.one_round.Summary.{Summary}, facts.Occurring.{allowed_after, landed_again, occurs_allowed, path_of}, inner.Exploring.{FollowsKey}}
+use Rattle.mc_explore.specs.{declared.one_round.Summary.{Summary}, facts.Following.{cost_few}, facts.Occurring.{allowed_after, landed_again, occurs_allowed, path_of}, inner.Exploring.{FollowsKey}}
 use Rattle.mc_explore.specs.{inner.OneRound.{IsOf, IsSummary, at_cut, begins, begun_of, boots, one_round}, inner.View.{Followed, IsLoaded}}
 use Rattle.mc_flash.specs.{Flash.{Content}, Geometry.{IsLayout}, Usage.{Allows, Limits, Seen, Spent, most_operations}}
 use Rattle.mc_tree.specs.{Tree.{Allowed, landed}, facts.Order.{allowed_prefix}}
@@ -13,17 +13,6 @@ use Rattle.mc_tree.specs.Tree as tree
 
 same_begun : (old new : Walked OneRound) → IsSame old new → begun_of new ≡ begun_of old
 same_begun old new s = ap begins s.flash_tree
-
--- ---- what a path costs
-
-pub cost_few : (start x : PowerOn) (l : List ℕ) → IsLayout start.geometry → IsOf start x → Allowed boots x l
-    → path_cost (one_round start) l ≤ length l * (2 * most_operations start.rules.grain start.geometry)
-cost_few start x [] valid of a = omega arith
-cost_few start x (c ∷ cs) valid of a =
-    let most : ℕ = most_operations start.rules.grain start.geometry in
-    let rest = cost_few start (again x (at_cut x c)) cs valid (of_next start x (at_cut x c) of) a.1 in
-    let more : suc (length cs) * (2 * most) ≡ 2 * most + length cs * (2 * most) = omega arith in
-    omega (arith, rest, few_ops (again start x.content) valid, a.0, more, ap (λ (y : PowerOn). length (ops_of y)) of)
 
 -- ---- the same start
 
@@ -129,31 +118,3 @@ module _ (counted : Bool) (start : PowerOn) (bound : ℕ) (path : List ℕ) (w :
   pub replayed : (q : Progress) (new : Seen) → ComesOn w.seen (progress summary.boot) new q → q.to_come ≡ []
       → IsReplayed start path (shown summary.outcome) new.content
   replayed q new come end = grind (arith, allowed_after, come_left)
-
--- A walk along a schedule.
-
-module _ (old new : Walked OneRound) (path : List ℕ) (root : old.path ≡ []) where
-  pub follows_schedule : (went : Bool) → Follows (one_round (begun_of old)) path old went new
-      → FollowsKey subject (λ (o : OneRound). one_round (begins o)) begins (λ _. tt) (λ _ l. l) old path went new
-  follows_schedule true f = (f.1, f.0 ∙ ap (λ z. z ++ path) root, f.2, f.3)
-  follows_schedule false f = λ m.
-      let x = begun_of old in
-      let here = path_of x old.bound path m in
-      let n : ℕ = f.steps + 1 in
-      let len : length (take n path) ≤ old.bound = omega (arith, length-take-le n path (omega (arith, f.inside)), f.inside, here.0) in
-      f.no_child (subst (λ l. tree.IsMember boots x old.bound (l ++ take n path)) (sym root) (len, allowed_prefix boots x path n here.1))
-
-  -- It takes two boots a cut at most, and one to begin with.
-  pub cheap : (went : Bool) → went ≡ true → let x = begun_of old in Follows (one_round x) path old went new → IsLayout x.geometry → Spent (path_cost (one_round x) path) old.seen new.seen
-      → old.seen.usage.applied ≤ most_operations x.rules.grain x.geometry → new.seen.usage.applied ≤ 2 * (old.bound + 1) * most_operations x.rules.grain x.geometry
-  cheap false is f valid spent begun = absurd cc
-  cheap true is f valid spent begun =
-      let x = begun_of old in
-      let most : ℕ = most_operations x.rules.grain x.geometry in
-      let member = subst (tree.IsMember boots x old.bound) (f.0 ∙ ap (λ z. z ++ path) root) f.1 in
-      let cost = cost_few x x path valid refl member.1 in
-      let at_most : length path * (2 * most) ≤ old.bound * (2 * most) = mul-le-mul_right (2 * most) member.0 in
-      sum most old.bound (path_cost (one_round x) path) (length path * (2 * most)) old.seen.usage.applied new.seen.usage.applied begun spent.applied cost at_most
-    where
-      sum : (most n cost many a b : ℕ) → a ≤ most → b ≤ a + cost → cost ≤ many → many ≤ n * (2 * most) → b ≤ 2 * (n + 1) * most
-      sum most n cost many a b first along at_most all = let e : 2 * (n + 1) * most ≡ n * (2 * most) + 2 * most = omega arith in omega (arith, first, along, at_most, all, e)

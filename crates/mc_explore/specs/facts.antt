@@ -4,6 +4,8 @@ pub mod Summaries
 pub mod Restarts
 pub mod Listed
 pub mod Keys
+pub mod Following
+pub mod LastCuts
 pub mod Listings
 pub mod Whole
 pub mod Tails

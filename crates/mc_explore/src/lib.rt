@@ -2,14 +2,15 @@
 #![tactic(auto)]
 
 mod ahead;
+mod at_cuts;
 mod census;
 mod census_text;
 mod countable;
 mod error;
 mod expectation;
 mod explorer;
+mod joining;
 mod labels;
-mod last_cuts;
 mod laws;
 mod one_round;
 mod output;
@@ -30,14 +31,15 @@ mod tree_explorer;
 mod tree_loading;
 
 pub use ahead::RowsAhead;
+pub use at_cuts::{AtCuts, Joined};
 pub use census::{Census, CensusOf, each_boots};
 pub use census_text::{census_line, write_census};
 pub use countable::{Countable, Ending};
 pub use error::ExploreError;
 pub use expectation::{Expectation, Wanted};
 pub use explorer::Explorer;
+pub use joining::{Joining, tell};
 pub use labels::Labels;
-pub use last_cuts::AtCuts;
 pub use laws::{one_list_of_rows, pages_join_up};
 pub use mc_boot::Kind;
 pub use mc_start::{

@@ -1,19 +1,17 @@
 //! Schedules, as what an explorer goes through.
 use crate::ahead::RowsAhead;
+use crate::at_cuts::AtCuts;
 use crate::countable::{Countable, Ending};
+use crate::joining::{Joining, tell};
 use crate::labels::Labels;
-use crate::last_cuts::AtCuts;
 use crate::one_round::{OneRound, Summary};
 use crate::row::Row;
 use crate::subject::{Fields, OfStart, Subject};
 use mc_boot::{Boot, Outcome, SharedTail, restart_law};
-use mc_flash::{Flash, most_operations};
+use mc_flash::Flash;
 use mc_start::{Cursor, Line, Schedule, Start};
 use mc_walk::Walk;
 use std::alloc::{AllocError, Global};
-
-/// For how many cuts of one boot an explorer keeps the outcomes, at the most.
-const MOST_KEPT: u64 = 0x1_0000;
 
 impl Subject for OneRound<'_> {
     ghost use Rattle.std.specs.Prelude.{◌≡◌, ◌≢◌, ◌↔◌, ◌++◌, ◌+◌, ◌<◌, ◌≤◌, [], length, true, false};
@@ -23,8 +21,8 @@ impl Subject for OneRound<'_> {
     ghost use Rattle.mc_start.specs.Cursor.{cursor_of};
     ghost use Rattle.mc_start.specs.Start.{start_digest};
     ghost use Rattle.mc_tree.specs.facts.Order.{paths_in_order};
-    ghost use Rattle.mc_explore.specs.inner.LastCuts.{AreAtCuts, AreLastCuts};
-    ghost use Rattle.mc_explore.specs.inner.OneRound.{begins};
+    ghost use Rattle.mc_explore.specs.inner.LastCuts.{AreKept, AreLastCuts, AreSame, HasOutcomeAt};
+    ghost use Rattle.mc_explore.specs.inner.OneRound.{begins, one_round};
     ghost use Rattle.mc_explore.specs.Rows.{fields_of, subject};
     ghost use Rattle.mc_explore.specs.Rows as states;
     ghost use Rattle.mc_explore.specs.facts.Keys.{are_schedules, one_more, schedule_costs, schedules_clear};
@@ -40,7 +38,7 @@ impl Subject for OneRound<'_> {
 
     type Cursor = Cursor;
 
-    type Kept = AtCuts;
+    type Kept = AtCuts<Outcome>;
 
     type Ahead = SharedTail;
 
@@ -56,10 +54,11 @@ impl Subject for OneRound<'_> {
 
     ghost fields = { fields_of };
 
-    ghost holds = { λ o kept. AreAtCuts (begins o) kept.parent_path kept.outcomes.items };
+    ghost holds = { λ o kept. AreKept (one_round (begins o)) (AreSame (begins o)) (HasOutcomeAt (begins o))
+        kept };
 
-    ghost is_ahead = { λ o kept path shared_tail count. AreLastCuts (begins o) kept.parent_path path
-        kept.outcomes.items shared_tail count };
+    ghost is_ahead = { λ o kept path tail count. AreLastCuts (one_round (begins o)) (AreSame (begins o))
+        (HasOutcomeAt (begins o)) path kept tail count };
 
     ghost more = { 1 };
 
@@ -92,41 +91,26 @@ impl Subject for OneRound<'_> {
         }
     }
 
-    // Below two cuts no boot goes on with another that could be cut as well.
-    fn kept(self, alloc: Global, bound: u8) -> Result<AtCuts, AllocError> {
-        let start = self.start;
-        let most = match bound {
-            0 | 1 => 0,
-            _ => most_operations(start.layout(), start.rules().grain).min(MOST_KEPT),
-        };
-        AtCuts::new(alloc, most as usize)
+    fn kept(self, alloc: Global, bound: u8) -> Result<AtCuts<Outcome>, AllocError> {
+        AtCuts::of(alloc, self.start, 1, bound)
     }
 
     fn arrive<F: Flash>(
-        kept: &mut AtCuts,
+        kept: &mut AtCuts<Outcome>,
         walk: &Walk<F, Self>,
         path: &Schedule,
     ) -> Option<RowsAhead<SharedTail>> {
-        let path = path.cuts();
-        if path.len() == walk.bound() {
-            kept.keep(path, walk.summary().outcome);
-            return None;
-        }
-        if path.len() + 1 == walk.bound() {
-            kept.find_last_cuts(walk, path)
-        } else {
-            None
-        }
+        tell(kept, walk, path)
     }
 
     #[inline]
     fn row_ahead(
         self,
-        kept: &AtCuts,
+        kept: &AtCuts<Outcome>,
         path: &Schedule,
         rows: &RowsAhead<SharedTail>,
     ) -> Option<Row> {
-        let outcome = kept.outcome(&rows.ahead, rows.next)?;
+        let outcome = kept.find(&rows.ahead, rows.next)?;
         let mut schedule = *path;
         schedule.push(rows.next);
         Some(Row { schedule, outcome })
@@ -217,6 +201,34 @@ impl Subject for OneRound<'_> {
     ghost few_more = { one_more };
 
     ghost clear = { λ o. schedules_clear (begins o) };
+}
+
+impl Joining for OneRound<'_> {
+    ghost use Rattle.mc_explore.specs.inner.LastCuts.{AreSame, HasOutcomeAt};
+    ghost use Rattle.mc_explore.specs.inner.OneRound.{begins};
+    ghost use Rattle.mc_explore.specs.facts.Tails.{same_outcome};
+
+    type Told = Outcome;
+
+    ghost IsTold = { λ o. HasOutcomeAt (begins o) };
+
+    ghost IsLike = { λ o. AreSame (begins o) };
+
+    fn told(self, summary: &Summary) -> Outcome {
+        summary.outcome
+    }
+
+    fn joined_tail<F: Flash>(
+        self,
+        flash: &F,
+        at: &Boot,
+        _parent: &Summary,
+        child: &Summary,
+    ) -> Option<SharedTail> {
+        SharedTail::find(flash, at, &child.boot)
+    }
+
+    ghost told_alike = { λ o. same_outcome (begins o) };
 }
 
 impl<'a> OfStart<'a> for OneRound<'a> {

@@ -135,7 +135,8 @@ pub fn write_boot_rows<F: Flash, W: Write>(
     writer: &mut W,
 ) -> Result<(), TraceError>
     requires ready { IsReady (begun start.now) 1 walk.old }
-    requires inside { IfSome cut (λ n. n < length (ops_of (boot_at (begun start.now) walk.old.path))) }
+    requires inside { IfSome cut (λ n. n < length (ops_of (boot_at (begun start.now)
+        walk.old.path))) }
     ensures written { WritesText result (W.contents writer.old) (W.contents writer.new)
         (boot_rows look.now start.now.content (boot_at (begun start.now) walk.old.path) cut) }
     ensures goes { OnOk result (IfSome cut (λ n. IsAtChild model_of walk.old n

@@ -1,5 +1,5 @@
 -- A walk that goes to the children of a node, one after another.
-use Rattle.std.proofs.{Common.{List, [], arith, length, length-append, subst, suc, sym, true, ℕ, ◌++◌, ◌<◌, ◌∙◌, ◌∷◌, ◌≡◌}, lemmas.List.{same_from_push}}
+use Rattle.std.proofs.Common.{List, [], arith, length, length-append, subst, suc, sym, true, ℕ, ◌++◌, ◌<◌, ◌∙◌, ◌∷◌, ◌≡◌}
 use Rattle.mc_explore.specs.inner.Table.{CanPass, HasSameLimits, Passed, ReachesChild}
 use Rattle.mc_tree.specs.{Tree.{Allowed, Beyond, landed}, facts.Order.{HasPassed, allowed-push, landed-push}}
 use Rattle.mc_walk.specs.{TreeModel.{HasWidth, IsChildOf, TreeModel}, Walks.{IsLastStep, IsPath, IsSame, IsThere, Walked}}
@@ -71,13 +71,3 @@ module _ {N A T B : Type 0} (model : B → TreeModel N A T) (old : Walked B) whe
   -- One child more was reached, and what lies below it is not gone through, or was.
   pub come_on : (number : ℕ) (at : Walked B) → IsAtChild number at → HasCome (suc number) at
   come_on number at here = record { same = here.same; limits = here.limits; stands = here.stands; passed = ([], here.path, λ m allowed beyond. subst (λ (l : List ℕ). Beyond l m) here.path beyond) }
-
-  -- What a walk is given there is given of that child.
-  pub child_there : (number : ℕ) (at : Walked B) (f : Frame A T) (summary : T) → IsAtChild number at → IsThere (model at.flash_tree) at summary
-      → IsLastStep (model at.flash_tree) at f → IsChildOf k (landed k.tree root old.path) number f.at f.parent summary at.seen
-  child_there number at f summary here there step =
-      let same = same_from_push step.before old.path f.number number (sym step.path_is ∙ here.path) in
-      let P : List ℕ → ℕ → Type 0 = λ l i. IsChildOf k (landed k.tree root l) i f.at f.parent summary at.seen in
-      let is : P step.before f.number = subst (λ b. IsChildOf (model b) (landed (model b).tree (model b).root step.before) f.number f.at f.parent summary at.seen) here.same.flash_tree
-      (child_here (model at.flash_tree) at f summary there step) in
-      subst (P old.path) same.1 (subst (λ l. P l f.number) same.0 is)

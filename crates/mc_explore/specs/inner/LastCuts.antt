@@ -1,27 +1,54 @@
--- The schedules of the most cuts: the outcomes after their last cuts are found among those at the cuts of another boot.
-use Rattle.std.specs.Prelude.{List, Some, [], length, slice_get, ℕ, ◌++◌, ◌^◌, ◌∷◌, ◌≡◌, ◌≤◌}
-use Rattle.mc_boot.specs.{Outcome.{ops_of, outcome_of, shown}, Plan.{PowerOn}, SharedTail.{IsSharedTail}, declared.outcome.Outcome.{Outcome}}
-use Rattle.mc_boot.specs.declared.shared_tail.SharedTail.{SharedTail}
-use Rattle.mc_explore.specs.inner.OneRound.{boots}
+-- The rows of the longest paths: what is told after their last steps is found among what is told of the children of another node.
+use Rattle.std.specs.Prelude.{IfSome, List, None, Option, Some, [], length, slice_get, ℕ, ◌++◌, ◌+◌, ◌<◌, ◌^◌, ◌∷◌, ◌≡◌, ◌≤◌}
+use Rattle.mc_boot.specs.{Outcome.{outcome_of, shown}, Plan.{PowerOn}, SharedTail.{index_in_parent}, declared.outcome.Outcome.{Outcome}, declared.shared_tail.SharedTail.{SharedTail}}
+use Rattle.mc_explore.specs.{declared.at_cuts.AtCuts.{AtCuts}, declared.at_cuts.Joined.{Joined}, inner.OneRound.{boots}}
 use Rattle.mc_tree.specs.Tree.{landed}
+use Rattle.mc_walk.specs.TreeModel.{TreeModel}
 
-module _ (from : PowerOn) where
-  -- What the boot after a schedule begins with.
-  abbrev pub boot_at : List ℕ → PowerOn
-  boot_at = landed boots from
+-- What the boot after a schedule begins with.
+abbrev pub boot_at : PowerOn → List ℕ → PowerOn
+boot_at from = landed boots from
 
-  -- The outcomes of the boots after the first cuts of the boot there.
-  abbrev pub AreAtCuts : List ℕ → List Outcome → Type 0
-  AreAtCuts parent_path outcomes =
-      (i : ℕ) (o : Outcome) → slice_get outcomes i ≡ Some o → outcome_of (boots.child (boot_at parent_path) i) ≡ Some (shown o)
+-- Two schedules after which the boots begin with the same, and the outcome of the boot after a schedule.
+abbrev pub AreSame : PowerOn → List ℕ → List ℕ → Type 0
+AreSame from path other = boot_at from path ≡ boot_at from other
 
-  -- The last cuts after a path, so many, of a boot that goes on with the one after the path without its last cut; all outcomes of
-  -- that one are there.
-  pub record AreLastCuts (parent_path path : List ℕ) (outcomes : List Outcome) (shared_tail : SharedTail) (count : ℕ) : Type 0 where
+abbrev pub HasOutcomeAt : PowerOn → List ℕ → Outcome → Type 0
+HasOutcomeAt from path outcome = outcome_of (boot_at from path) ≡ Some (shown outcome)
+
+-- That is kept of the cut of that number.
+abbrev pub HasTold : {O : Type 0} → AtCuts O → ℕ → O → Type 0
+HasTold kept n o = (i : ℕ) × (slice_get kept.told.items i ≡ Some o) × (n ≡ kept.first + i)
+
+-- The child of its parent among whose children that of a joined node lies which is at the end of a path.
+abbrev pub IsIndexOf : Option Joined → List ℕ → ℕ → Type 0
+IsIndexOf None path index = ⊥
+IsIndexOf (Some j) path index = (last : ℕ) × (path ≡ j.path ++ last ∷ []) × (index ≡ index_in_parent j.shared_tail last)
+
+module _ {N A T : Type 0} (k : TreeModel N A T) (IsLike : List ℕ → List ℕ → Type 0) where
+  -- The children of the node at the end of a path lie among those at the end of its parent's.
+  pub record AreLike (parent_path path : List ℕ) (tail : SharedTail) : Type 0 where
+    pub within : (i : ℕ) → i < k.tree.width (landed k.tree k.root path) → index_in_parent tail i < k.tree.width (landed k.tree k.root parent_path)
+    pub like : (i : ℕ) → i < k.tree.width (landed k.tree k.root path) → IsLike (path ++ i ∷ []) (parent_path ++ index_in_parent tail i ∷ [])
+
+  -- So do those after the last step of a path.
+  pub record IsJoined (parent_path path : List ℕ) (tail : SharedTail) : Type 0 where
     pub number : ℕ
     pub path_is : path ≡ parent_path ++ number ∷ []
-    pub with_shared_tail : IsSharedTail (boot_at parent_path) (boot_at path).content shared_tail
-    pub count_is : count ≡ length (ops_of (boot_at path))
-    pub whole : length outcomes ≡ length (ops_of (boot_at parent_path))
-    pub some : 1 ≤ count
-    pub small : count ≤ 2 ^ 31
+    pub are_like : AreLike parent_path path tail
+
+  module _ {O : Type 0} (IsTold : List ℕ → O → Type 0) where
+    -- What is kept.
+    pub record AreKept (kept : AtCuts O) : Type 0 where
+      pub at_cuts : (n : ℕ) (o : O) → HasTold kept n o → IsTold (kept.parent_path ++ n ∷ []) o
+      pub joined_is : IfSome kept.joined (λ j. IsJoined kept.parent_path j.path j.shared_tail)
+
+    -- The last steps after a path, so many, to children that lie among those of the node before its last step; all is there that is told of
+    -- these.
+    pub record AreLastCuts (path : List ℕ) (kept : AtCuts O) (tail : SharedTail) (count : ℕ) : Type 0 where
+      pub joined : IsJoined kept.parent_path path tail
+      pub count_is : count ≡ k.tree.width (landed k.tree k.root path)
+      pub whole : kept.first + length kept.told.items ≡ k.tree.width (landed k.tree k.root kept.parent_path)
+      pub low : (i : ℕ) → kept.first ≤ index_in_parent tail i
+      pub some : 1 ≤ count
+      pub small : count ≤ 2 ^ 31

@@ -1,10 +1,11 @@
-use Rattle.mc_explore.proofs.Walks.{cheap, follows_schedule}
+use Rattle.mc_explore.specs.{facts.Following.{cheap, follows_schedule}, inner.OneRound.{begins}}
 use Rattle.mc_explore.proofs.schedules.OneRoundSubject.follow.Goals as goal
 
 pub returns-clause-follows : goal.returns-clause-follows
-returns-clause-follows g c = follows_schedule c.args.walk.now c.follow.new.self c.args.key.now c.requires.root c.in_ok-went.went (rw c.cuts.ensures.value at c.in_ok-went.ensures.step)
+returns-clause-follows g c =
+    follows_schedule begins c.args.walk.now c.follow.new.self c.args.key.now c.requires.root c.in_ok-went.went (rw c.cuts.ensures.value at c.in_ok-went.ensures.step)
 
 pub returns-clause-cheap : goal.returns-clause-cheap
-returns-clause-cheap g c = λ went begun.
-    cheap c.args.walk.now c.follow.new.self c.args.key.now c.requires.root c.in_ok-went.went went (rw c.cuts.ensures.value at c.in_ok-went.ensures.step) c.requires.valid
-    (rw c.cuts.ensures.value at c.in_ok-went.ensures.spends) begun
+returns-clause-cheap g c =
+    cheap begins c.args.walk.now c.follow.new.self c.args.key.now c.requires.root c.requires.valid c.in_ok-went.went (rw c.cuts.ensures.value at c.in_ok-went.ensures.step)
+    (rw c.cuts.ensures.value at c.in_ok-went.ensures.spends)

@@ -1,0 +1,43 @@
+use Rattle.std.proofs.Common.{List, None, Some, [], ap, arith, length, subst, sym, ℕ, ◌++◌, ◌<◌, ◌∙◌, ◌∷◌}
+use Rattle.mc_boot.specs.{Outcome.{shown}, declared.outcome.Outcome.{Outcome}}
+use Rattle.mc_campaign.proofs.{Along.{labelled-length}, LastCuts.{campaign_ordered, campaign_there, outcomes_there}}
+use Rattle.mc_campaign.specs.{Rows.{HasOutcomes}, inner.LastCuts.{AreLikePaths, EndSoAt}, inner.TwoRounds.{cuts_along, model_of, rounds, second_start}}
+use Rattle.mc_explore.specs.{facts.LastCuts.{like_there, told_there}, inner.OneRound.{begins, boots}}
+use Rattle.mc_tree.specs.Tree.{label, round_one}
+use Rattle.mc_campaign.proofs.campaign_subject.TwoRoundsSubject.row_ahead.Goals as goal
+
+pub returns-in_err-told : goal.returns-in_err-told
+returns-in_err-told c = λ holds are allowed.
+    let t = c.args.self in
+    let rows = c.args.rows.now in
+    absurd (told_there (model_of t) (AreLikePaths t) (EndSoAt t) c.args._path.now c.args.kept.now rows.ahead.shared_tail rows.count rows.next are.are c.requires.some None
+    (λ i at. sym c.in_err-told.was ∙ c.find.ensures i at) holds)
+
+pub returns-in_err-campaign : goal.returns-in_err-campaign
+returns-in_err-campaign c = λ holds are allowed.
+    let t = c.args.self in
+    let rows = c.args.rows.now in
+    let path = c.args._path.now in
+    let many = labelled-length (rounds t.confirms) (label boots (second_start t.confirms)) (round_one (begins t.one_round)) path in
+    let room : length rows.ahead.campaign < 16 = omega (arith, c.requires.short, ap (λ (l : List (ℕ × ℕ)). length l) are.campaign_is, many) in
+    absurd (let no = c.in_err-campaign.ensures.some room (campaign_ordered t c.args.kept.now path rows.ahead rows.count rows.next are allowed) in cc)
+
+pub returns : goal.returns
+returns c = λ holds are allowed.
+    let t = c.args.self in
+    let start = begins t.one_round in
+    let k = t.confirms in
+    let rows = c.args.rows.now in
+    let kept = c.args.kept.now in
+    let path = c.args._path.now in
+    let ends = c.in_ok-told.told in
+    let told = told_there (model_of t) (AreLikePaths t) (EndSoAt t) path kept rows.ahead.shared_tail rows.count rows.next are.are c.requires.some (Some ends)
+    (λ i at. sym c.in_ok-told.was ∙ c.find.ensures i at) holds in
+    let like = like_there (model_of t) (AreLikePaths t) (EndSoAt t) path kept rows.ahead.shared_tail rows.count rows.next are.are c.requires.some in
+    let key = c.in_ok-campaign.ensures.more ∙ campaign_there t kept path rows.ahead rows.count rows.next are allowed in
+    let P : List (ℕ × ℕ) → Outcome → Outcome → Type 0 = λ d one two. HasOutcomes start k (record { campaign = d; first = shown one; second = shown two }) in
+    let cuts : List (ℕ × ℕ) = cuts_along k start (path ++ rows.next ∷ []) in
+    let there = outcomes_there t kept path rows.ahead rows.count rows.next are allowed ends like told in
+    let first = subst (λ o. P cuts o ends.second) (sym c.ends_of.ensures.first) there in
+    let second = subst (λ o. P cuts c.ends_of.result.first o) (sym c.ends_of.ensures.second) first in
+    (key, subst (λ d. P d c.ends_of.result.first c.ends_of.result.second) (sym key) second)

@@ -1,0 +1,7 @@
+use Rattle.mc_explore.specs.inner.OneRound.{begins}
+use Rattle.mc_campaign.proofs.Tails.{tail_likes}
+use Rattle.mc_campaign.proofs.two_rounds.TwoRoundsJoining.joined_tail.Goals as goal
+
+pub returns : goal.returns
+returns g c =
+    tail_likes (begins c.args.self.one_round) c.args.self.confirms c.args.parent.now c.args.child.now (g.F.Flash.seen c.args.flash.now) c.args.at.now c.tail_of.result c.tail_of.ensures

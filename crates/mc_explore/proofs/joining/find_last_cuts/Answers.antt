@@ -1,0 +1,63 @@
+use Rattle.std.proofs.Common.{List, arith, refl, rules, sym, ℕ, ◌∙◌}
+use Rattle.mc_explore.proofs.LastCuts.{joined_there, kept_turned, node_there, parent_there}
+use Rattle.mc_explore.specs.facts.Children.{child_here}
+use Rattle.mc_tree.specs.Tree.{landed}
+use Rattle.mc_walk.specs.TreeModel.{HasChild}
+use Rattle.mc_explore.proofs.joining.find_last_cuts.Goals as goal
+
+pub joined_tail-requires : goal.joined_tail-requires
+joined_tail-requires g c =
+    let walk = c.args.walk.now in
+    let step = c.in_ok-step.ensures.step in
+    let k = g.X.FlashTree.model walk.flash_tree in
+    let here : HasChild k c.in_ok-step.step.now.at c.in_ok-step.step.now.parent c.summary-summary.result.now walk.seen =
+    (landed k.tree k.root step.before, c.in_ok-step.step.now.number, child_here k walk c.in_ok-step.step.now c.summary-summary.result.now c.summary-summary.ensures step) in
+    rw c.flash.ensures (rw c.flash_tree-flash_tree.ensures here)
+
+pub returns-then-not-has_all-clause-kept : goal.returns-then-not-has_all-clause-kept
+returns-then-not-has_all-clause-kept g c = λ kept.
+    let walk = c.args.walk.now in
+    let b = walk.flash_tree in
+    let k = g.X.FlashTree.model b in
+    let found = rw c.flash_tree-flash_tree.ensures at (rw c.flash.ensures at c.in_ok-shared_tail.ensures) in
+    let joined = joined_there k walk c.in_ok-step.step.now c.summary-summary.result.now c.in_ok-parent_path.parent_path.now c.args.path.now c.in_ok-parent_path.field-0-0.now
+    c.in_ok-step.ensures.step c.summary-summary.ensures c.requires.path c.in_ok-parent_path.ensures.cases.0 (g.X.Joining.IsLike b) c.in_ok-shared_tail.shared_tail found in
+    record {
+      at_cuts = kept_turned k (g.X.Joining.IsLike b) (g.X.Joining.IsTold b) c.args.kept.now c.turn_to.new.self kept c.turn_to.ensures.kept;
+      joined_is = rw (sym c.turn_to.ensures.path, sym c.of-path.ensures) at joined;
+    }
+
+pub returns-clause-kept : goal.returns-clause-kept
+returns-clause-kept g c = λ kept.
+    let b = c.args.walk.now.flash_tree in
+    let k = g.X.FlashTree.model b in
+    record {
+      at_cuts = kept_turned k (g.X.Joining.IsLike b) (g.X.Joining.IsTold b) c.args.kept.now c.turn_to.new.self kept c.turn_to.ensures.kept;
+      joined_is = rw c.turn_to.ensures.joined tt;
+    }
+
+pub returns-clause-cuts : goal.returns-clause-cuts
+returns-clause-cuts g c =
+    let walk = c.args.walk.now in
+    let b = walk.flash_tree in
+    let k = g.X.FlashTree.model b in
+    let of : List ℕ = c.in_ok-parent_path.parent_path.now in
+    let step = c.in_ok-step.step.now in
+    let summary = c.summary-summary.result.now in
+    let last = c.in_ok-parent_path.field-0-0.now in
+    let split = c.in_ok-parent_path.ensures.cases.0 in
+    let found = rw c.flash_tree-flash_tree.ensures at (rw c.flash.ensures at c.in_ok-shared_tail.ensures) in
+    let joined = joined_there k walk step summary of c.args.path.now last c.in_ok-step.ensures.step c.summary-summary.ensures c.requires.path split (g.X.Joining.IsLike b)
+    c.in_ok-shared_tail.shared_tail found in
+    let parent = parent_there k walk step summary of c.args.path.now last c.in_ok-step.ensures.step c.summary-summary.ensures c.requires.path split in
+    let node = node_there k walk step summary of c.args.path.now last c.in_ok-step.ensures.step c.summary-summary.ensures c.requires.path split in
+    let count = rw c.flash_tree-flash_tree.ensures at c.width-count.ensures in
+    let whole = rw c.flash_tree-flash_tree.ensures at c.width.ensures in
+    record {
+      joined = rw (sym c.turn_to.ensures.path) at joined;
+      count_is = count (landed k.tree k.root c.args.path.now) node;
+      whole = rw (sym c.turn_to.ensures.path) at (c.if-not-has_all.ensures.whole refl ∙ whole (landed k.tree k.root of) parent);
+      low = c.if-not-has_all.ensures.low refl;
+      some = omega (arith, c.if-count-eq0.false);
+      small = search rules;
+    }

@@ -1,0 +1,29 @@
+-- What is told of the next of the last steps after a path.
+use Rattle.std.proofs.{Common.{arith, sym}, lemmas.Option.{slice_get_cases}}
+use Rattle.std.specs.Prelude.{IsSomeAnd, List, None, Option, Some, [], length, slice_get, ℕ, ◌++◌, ◌+◌, ◌-◌, ◌<◌, ◌∷◌, ◌≡◌}
+use Rattle.mc_boot.specs.{SharedTail.{index_in_parent}, declared.shared_tail.SharedTail.{SharedTail}}
+use Rattle.mc_explore.specs.{declared.at_cuts.AtCuts.{AtCuts}, inner.LastCuts.{AreKept, AreLastCuts}}
+use Rattle.mc_tree.specs.Tree.{landed}
+use Rattle.mc_walk.specs.TreeModel.{TreeModel}
+
+module _ {N A T O : Type 0} (k : TreeModel N A T) (IsLike : List ℕ → List ℕ → Type 0) (IsTold : List ℕ → O → Type 0) (path : List ℕ) (kept : AtCuts O) (tail : SharedTail)
+    (count next : ℕ) (are : AreLastCuts k IsLike IsTold path kept tail count) (lt : next < count) where
+  abbrev at : ℕ
+  at = index_in_parent tail next - kept.first
+
+  at_is : kept.first + at ≡ index_in_parent tail next
+  at_is = omega (arith, are.low next)
+
+  inside : next < k.tree.width (landed k.tree k.root path)
+  inside = omega (arith, lt, are.count_is)
+
+  some_there : at < length kept.told.items
+  some_there = omega (arith, at_is, are.joined.are_like.within next inside, are.whole)
+
+  pub like_there : IsLike (path ++ next ∷ []) (kept.parent_path ++ index_in_parent tail next ∷ [])
+  like_there = are.joined.are_like.like next inside
+
+  pub told_there : (found : Option O) → ((i : ℕ) → index_in_parent tail next ≡ kept.first + i → found ≡ slice_get kept.told.items i)
+      → AreKept k IsLike IsTold kept → IsSomeAnd found (IsTold (kept.parent_path ++ index_in_parent tail next ∷ []))
+  told_there None is holds = let none = is at (sym at_is) in grind (arith, slice_get_cases, some_there)
+  told_there (Some o) is holds = holds.at_cuts (index_in_parent tail next) o (at, sym (is at (sym at_is)), sym at_is)
