@@ -2,7 +2,9 @@
 mod bounds;
 mod campaigns;
 mod common;
+mod kinds;
 mod large;
 mod pages;
+mod plain;
 mod texts;
 mod writers;
