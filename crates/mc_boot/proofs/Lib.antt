@@ -21,5 +21,6 @@ pub mod FromRest
 pub mod LifeProof
 pub mod Erased
 pub mod SharedTails
+pub mod Twins
 pub mod SharedTailProof
 pub mod RestartProof

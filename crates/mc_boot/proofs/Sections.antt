@@ -1,12 +1,12 @@
 -- A course is its sections, one after the other: how many operations each has, and which is which.
-use Rattle.std.proofs.{Common.{add-one, ap, append-nil, append_assoc, arith, length-append, sym, zero-add, ◌∙◌}, Math.Nat.{mod-add-div', mul-le-mul_right}}
+use Rattle.std.proofs.{Common.{add-one, ap, append-nil, append_assoc, arith, length-append, sym, zero-add, ◌∙◌}, Math.Nat.{div-lt_iff_lt-mul, mod-add-div', mul-le-mul_right}}
 use Rattle.std.proofs.{lemmas.List.{length-drop}, lemmas.List.FromFn.{length-map-range_with_len}, lemmas.Nat.{mod_below}, lemmas.Option.{slice_get_within}}
-use Rattle.std.specs.Prelude.{Bool, IfSome, List, Option, Some, [], drop, get_or, length, map, refl, slice_get, suc, take, false, true, zero, ℕ, ◌∷◌, ◌%◌, ◌*◌, ◌++◌, ◌+◌, ◌-◌, ◌/◌, ◌<◌, ◌≡◌, ◌≤◌}
+use Rattle.std.specs.Prelude.{Bool, IfSome, List, Option, Some, [], drop, get_or, if◌then◌else◌, length, map, max, refl, slice_get, suc, take, false, true, zero, ℕ, ◌∷◌, ◌%◌, ◌*◌, ◌++◌, ◌+◌, ◌-◌, ◌/◌, ◌<◌, ◌≡◌, ◌≤◌}
 use Rattle.mc_boot.specs.Boot.{list_from}
-use Rattle.mc_boot.specs.Plan.{is_revert, new_list, opening_writes, preparation_writes, resumed_list, steps, swap_list, trailer_erase, trailer_erases, transfers, write_count}
-use Rattle.mc_boot.specs.{declared.course.Opening.{Opening}, declared.section.Counted.{Counted}, declared.section.Section.{Section}}
+use Rattle.mc_boot.specs.Plan.{closing, is_revert, is_test, new_list, opening_writes, preparation_writes, resumed_list, steps, swap_list, trailer_erase, trailer_erases, transfers, write_count}
+use Rattle.mc_boot.specs.{declared.course.Opening.{Opening}, declared.course.Opening.TheVariants.{New, Resumed}, declared.section.Counted.{Counted}, declared.section.Section.{Section}}
 use Rattle.mc_boot.specs.{declared.section.Section.TheVariants.{Nothing, Erases, Flag, Size, Magic, Transfers}, declared.transfer.Transfer.{Transfer}}
-use Rattle.mc_boot.specs.inner.Section.{AreCounted, count_in, counted, ops_in, ops_of_all, preparation_sections, resumed_sections, swap_sections}
+use Rattle.mc_boot.specs.inner.Section.{AreCounted, count_in, counted, first_of, head_list, is_confirmed, ops_in, ops_of_all, preparation_sections, resumed_sections, swap_sections}
 use Rattle.mc_boot.specs.{facts.Bounds.{course_count}, facts.Lengths.{length-magic, length-size, length-steps, length-transfers, length_pieces}}
 use Rattle.mc_flash.specs.{Geometry.{Geometry, IsLayout, greatest_sectors, trailer_sectors}, declared.flash.Grain.{Grain}, declared.op.Op.{Op}}
 use Rattle.mc_flash.specs.{declared.op.Slot.{Slot}, declared.op.Slot.TheVariants.{Primary, Secondary}, facts.Layouts.{small_unit}}
@@ -25,6 +25,9 @@ pub get_transfer : (c : Grain) (g : Geometry) (n first k w : ℕ) (t : Transfer)
 get_transfer c g n first k w t is at =
     get_piece (steps g) w (λ t. length-steps g t ∙ sym is) (drop first (transfers g n)) k (k / w) (k % w) t (get_dropped first (transfers g n) (k / w) ∙ at)
     (mod_below k w (omega (arith, is))) (omega (arith, mod-add-div' k w))
+
+below : (k m w q : ℕ) → w ≡ q + 2 → k / w < m → k < m * (q + 2)
+below k m w q is low = rw (← is) ((div-lt_iff_lt-mul {k = w} {x = k} {y = m} (omega (arith, is))).0 low)
 
 module _ (c : Grain) (g : Geometry) (n : ℕ) where
   pub length_in : (s : Section) → length (ops_in c g n s) ≡ count_in c g n s
@@ -88,6 +91,63 @@ module _ (c : Grain) (g : Geometry) (n : ℕ) where
 
   pub other_is : (kind : SwapType) (size : ℕ) → is_revert kind ≡ false → new_list c g kind size n ≡ ops_of (swap_sections kind size)
   other_is kind size other = rw (other, swap_is kind size) refl
+
+  -- a course in three parts
+  pub parts_are : (o : Opening) → list_from c g n o ≡ head_list c g o ++ (ops_in c g n (Transfers (first_of o)) ++ closing g (is_confirmed o))
+  parts_are (New kind size) = grind (arith, append_assoc)
+  parts_are (Resumed first erases image_ok) = grind (arith, append_assoc)
+
+  -- how many operations each part has
+  abbrev pub marks : ℕ
+  marks = write_count c g (max g.unit 4) + write_count c g 16
+
+  length-opening : (kind : SwapType) (size : ℕ) → length (opening_writes c g kind size) ≡ 1 + (if is_test kind then 0 else 1) + marks
+  length-opening kind size = grind (arith, length-append, length-size, length-magic)
+
+  length-preparation : (size : ℕ) → length (preparation_writes c g size) ≡ 1 + marks
+  length-preparation size = grind (arith, length-append, length-size, length-magic)
+
+  pub length-erases : (slot : Slot) → length (trailer_erases g slot) ≡ trailer_sectors g
+  length-erases slot = length-map-range_with_len (trailer_erase g slot) 0 (trailer_sectors g)
+
+  pub head_of_revert : (kind : SwapType) (size k : ℕ) → is_revert kind ≡ true
+      → k ≡ trailer_sectors g + 1 + marks + (trailer_sectors g + 1 + (if is_test kind then 0 else 1) + marks + trailer_sectors g) → k ≡ length (head_list c g (New kind size))
+  head_of_revert kind size k revert is = grind (arith, length-append, length-opening, length-preparation, length-erases)
+
+  pub head_of_other : (kind : SwapType) (size k : ℕ) → is_revert kind ≡ false
+      → k ≡ trailer_sectors g + 1 + (if is_test kind then 0 else 1) + marks + trailer_sectors g → k ≡ length (head_list c g (New kind size))
+  head_of_other kind size k other is = grind (arith, length-append, length-opening, length-erases)
+
+  -- An operation of a transfer.
+  pub get_transfer_of : (o : Opening) (k later w : ℕ) (t : Transfer) (op : Op) → w ≡ g.sector / g.chunk + 2 → k ≡ length (head_list c g o) + later → later / w < 3 * n - first_of o
+      → slice_get (transfers g n) (first_of o + later / w) ≡ Some t → slice_get (steps g t) (later % w) ≡ Some op → slice_get (list_from c g n o) k ≡ Some op
+  get_transfer_of o k later w t op width at low is there =
+      let middle : List Op = ops_in c g n (Transfers (first_of o)) in
+      let rest : List Op = closing g (is_confirmed o) in
+      let within : later < length middle = omega (arith, length_in (Transfers (first_of o)), below later (3 * n - first_of o) w (g.sector / g.chunk) width low) in
+      ap (λ (l : List Op). slice_get l k) (parts_are o)
+      ∙ get_beyond (head_list c g o) (middle ++ rest) k later at
+      ∙ get_within middle rest later within
+      ∙ get_transfer c g n (first_of o) later w t width is
+      ∙ there
+
+  length-closing : (b : Bool) → length (closing g b) ≡ (if b then 2 else 1)
+  length-closing true = refl
+  length-closing false = refl
+
+  pub length-parts : (o : Opening) (k : ℕ) → k ≡ length (head_list c g o) + (3 * n - first_of o) * (g.sector / g.chunk + 2) + (if is_confirmed o then 2 else 1) → k ≡ length (list_from c g n o)
+  length-parts o k is =
+      let middle : List Op = ops_in c g n (Transfers (first_of o)) in
+      let rest : List Op = closing g (is_confirmed o) in
+      omega (
+        arith,
+        is,
+        ap (λ (l : List Op). length l) (parts_are o),
+        length-append (head_list c g o) (middle ++ rest),
+        length-append middle rest,
+        length_in (Transfers (first_of o)),
+        length-closing (is_confirmed o),
+      )
 
   -- no course is long
   few_units : (m : ℕ) → m ≤ 16 → write_count c g m ≤ 16

@@ -83,12 +83,12 @@ impl Boot {
         Boot {
             rules,
             kind,
-            course: Some(Course {
-                grain: rules.grain,
-                layout: layout.in_pieces(rules.grain),
+            course: Some(Course::new(
+                rules.grain,
+                layout.in_pieces(rules.grain),
                 sectors,
-                opening: Opening::New { kind, size },
-            }),
+                Opening::New { kind, size },
+            )),
             done: 0,
             faulted: false,
         }
@@ -146,19 +146,16 @@ impl Boot {
         let Some(first) = first_left(layout, sectors, highest) else {
             return Boot::idle(rules, SwapType::Panic);
         };
+        let opening = Opening::Resumed {
+            first,
+            erases: highest.is_none(),
+            image_ok: confirms(kind, image_ok),
+        };
+        let pieces = layout.in_pieces(rules.grain);
         Boot {
             rules,
             kind,
-            course: Some(Course {
-                grain: rules.grain,
-                layout: layout.in_pieces(rules.grain),
-                sectors,
-                opening: Opening::Resumed {
-                    first,
-                    erases: highest.is_none(),
-                    image_ok: confirms(kind, image_ok),
-                },
-            }),
+            course: Some(Course::new(rules.grain, pieces, sectors, opening)),
             done: 0,
             faulted: false,
         }

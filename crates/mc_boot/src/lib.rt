@@ -16,6 +16,7 @@ mod shared_tail;
 mod swap;
 mod text;
 mod transfer;
+mod twin;
 mod writes;
 
 pub use boot::{Boot, outcome_after};
@@ -28,3 +29,4 @@ pub use outcome::{BootResult, Outcome};
 pub use restart::restart_law;
 pub use shared_tail::SharedTail;
 pub use swap::swap_operations;
+pub use twin::has_twin;

@@ -84,7 +84,7 @@ impl Section {
             Section::Transfers(first) => {
                 let width = transfer_len(layout);
                 let transfer = transfer_at(layout, course.sectors, first + index / width);
-                Some(transfer_op(layout, transfer, index % width))
+                Some(transfer_op(layout, transfer, width, index % width))
             }
         }
     }

@@ -16,14 +16,14 @@ pub fn swap_operations(layout: &Layout, grain: Grain) -> u32
 {
     one_reading();
     same_prefix();
-    let course = Course {
+    let course = Course::new(
         grain,
-        layout: layout.in_pieces(grain),
-        sectors: layout.greatest_sectors(),
-        opening: Opening::New {
+        layout.in_pieces(grain),
+        layout.greatest_sectors(),
+        Opening::New {
             kind: SwapType::Test,
             size: 0,
         },
-    };
+    );
     course.len()
 }

@@ -126,16 +126,17 @@ pub fn transfer_len(layout: &Layout) -> u32
     layout.sector() / layout.chunk() + 2
 }
 
-/// One operation of a transfer.
-pub fn transfer_op(layout: &Layout, transfer: Transfer, index: u32) -> Op
+/// One operation of a transfer, which has so many.
+pub fn transfer_op(layout: &Layout, transfer: Transfer, width: u32, index: u32) -> Op
     requires inside { IsInside layout.now transfer }
-    requires below { index < layout.now.sector / layout.now.chunk + 2 }
+    requires width { width ≡ layout.now.sector / layout.now.chunk + 2 }
+    requires below { index < width }
     ensures at { slice_get (steps layout.now transfer) index ≡ Some result }
     ensures inside { CanTry layout.now result }
 {
     if index == 0 {
         Op::Erase(transfer.to, transfer.to_sector)
-    } else if index <= layout.sector() / layout.chunk() {
+    } else if index < width - 1 {
         chunk_copy(layout, transfer, index - 1)
     } else {
         entry_write(layout, transfer)

@@ -9,11 +9,11 @@ use Rattle.mc_boot.specs.declared.boot.Boot.{Boot}
 use Rattle.mc_walk.specs.TreeModel.{IsAt, IsChild, IsChildSummary}
 use Rattle.mc_explore.specs.{inner.OneRound.{IsOf, at_cut, CanPass, CountsAtMost, IsSummary, LeavesAlike, most_of, one_round}, facts.Occurring.{at_zero}}
 use Rattle.mc_explore.specs.{facts.Summaries.{first_left, first_on, width_is}, declared.one_round.Summary.{Summary}}
-use Rattle.mc_campaign.specs.inner.TwoRounds.{AreSummaries, second_start, boot_at, left_of_child_boot, most_of_both, owed_at, two_rounds_model}
+use Rattle.mc_campaign.specs.inner.TwoRounds.{AreSummaries, IsLater, later_from, later_number, second_start, boot_at, left_of_child_boot, most_of_both, owed_at, two_rounds_model}
 use Rattle.mc_campaign.specs.declared.campaign.Round.TheVariants as rounds_of
 use Rattle.mc_campaign.specs.{declared.rounds.Both.{Both}, declared.rounds.ChildBoot.{ChildBoot}}
 use Rattle.mc_campaign.specs.declared.rounds.ChildBoot.TheVariants as child_boots
-use Rattle.mc_campaign.proofs.Ways.{at_begin, at_first, between, between_left, child, first_at, first_child, of_second, same_start, width}
+use Rattle.mc_campaign.proofs.Ways.{at_begin, at_first, between, between_left, child, first_at, first_child, later_child, of_second, same_start, width}
 use Rattle.mc_boot.specs.Plan.{PowerOn, again}
 
 -- ---- the room of two rounds
@@ -162,20 +162,33 @@ module _ (start : PowerOn) (confirms : Bool) where
   summary_run : (p : RoundNode PowerOn) (i : ℕ) (boot : Boot) (ops : ℕ) (later : Summary) (seen : Seen) (both : Both)
       → IsAt (two_rounds_model start confirms) p i (child_boots.First boot ops later) seen → AreSummaries start confirms (round_one (again start seen.content)) both
       → AreSummaries start confirms (child confirms p i) both
-  summary_run (round_one s) i boot ops later seen both at t = grind arith
+  summary_run (round_one s) i boot ops later seen both at t =
+      let here = first_at start confirms s i boot ops later seen at in
+      let same : again start seen.content ≡ again s (at_cut s i) = ap (again start) here.content_is ∙ ap (λ (y : PowerOn). again y (at_cut s i)) (sym here.on_is.0) in
+      subst (λ q. AreSummaries start confirms q both) (sym (first_child confirms s i at.on_is.early)) (subst (λ x. AreSummaries start confirms (round_one x) both) same t)
   summary_run (round_two began s) i boot ops later seen both at t = absurd at.on_is
 
   pub summary_children : {E : Type 0} (child_boot : ChildBoot) (boot : Boot) (ops : ℕ) (later : Summary) (parent : Both) (seen : Seen) (result : Result Both E)
       → child_boot ≡ child_boots.First boot ops later
       → IfOk result (AreSummaries start confirms (round_one (again start seen.content))) → IfOk result (IsChildSummary (two_rounds_model start confirms) child_boot parent seen)
-  summary_children child_boot boot ops later parent seen (Ok both) is t = grind arith
+  summary_children child_boot boot ops later parent seen (Ok both) is t =
+      λ p i here some parent_is. summary_run p i boot ops later seen both (subst (λ b. IsAt (two_rounds_model start confirms) p i b seen) is here) t
   summary_children child_boot boot ops later parent seen (Err e) is t = tt
+
+  later_some : (p : RoundNode PowerOn) (i : ℕ) → IsLater p i → i < width confirms p → later_number p i < length (ops_of (later_from confirms p))
+  later_some (round_one s) i later early = omega (arith, later, early)
+  later_some (round_two began s) i later early = early
 
   pub summary_second : (p : RoundNode PowerOn) (i : ℕ) (boot : Boot) (two : Summary) (parent : Both) (seen : Seen) → IsAt (two_rounds_model start confirms) p i (child_boots.Second boot) seen
       → i < width confirms p
       → AreSummaries start confirms p parent → IsChildSummary (one_round start) boot parent.second seen two
       → AreSummaries start confirms (child confirms p i) (record { round = rounds_of.Second; first = parent.first; second = two })
-  summary_second p i boot two parent seen at early t gives = grind arith
+  summary_second p i boot two parent seen at early t gives =
+      let there = later_child confirms p i at.on_is.0 in
+      let here : IsAt (one_round start) (later_from confirms p) (later_number p i) boot seen =
+      record { on_is = at.on_is.1; content_is = at.content_is ∙ ap (λ q. (boot_at q).content) there; layout_is = at.layout_is } in
+      subst (λ q. AreSummaries start confirms q (record { round = rounds_of.Second; first = parent.first; second = two })) (sym there)
+      (record { round_is = refl; first_is = t.first_is; second_is = gives (later_from confirms p) (later_number p i) here (later_some p i at.on_is.0 early) t.second_is })
 
   -- Two boots that were run, one after the other.
   pub both_outcomes : (old mid new : Seen) (one two : Summary) → old.geometry ≡ start.geometry → mid.geometry ≡ old.geometry → IsSummary (again start old.content) one

@@ -52,6 +52,11 @@ impl FlashTree for TwoRounds<'_> {
         }
     }
 
+    // Twins are of the second round alone: which boot began it is part of a node.
+    fn has_twin(self, _at: &ChildBoot, _child: &Both) -> bool {
+        false
+    }
+
     fn first_child<F: Flash>(self, flash: &mut F, summary: &Both) -> Result<ChildBoot, AllocError> {
         let later = summary.second;
         match summary.round {
@@ -201,10 +206,12 @@ impl Ending for TwoRounds<'_> {
     ghost use Rattle.mc_tree.specs.Tree.{landed, round_one};
     ghost use Rattle.mc_explore.specs.inner.OneRound.{begins};
     ghost use Rattle.mc_campaign.specs.inner.TwoRounds.{rounds};
-    ghost use Rattle.mc_campaign.specs.facts.Listed.{end_from};
+    ghost use Rattle.mc_campaign.specs.facts.Listed.{end_from, same_end};
 
     ghost report_of = { λ t path. end_from t.confirms (landed (rounds t.confirms) (round_one (begins
         t.one_round)) path) };
+
+    ghost same_end = { λ t. same_end (begins t.one_round) t.confirms };
 
     fn ended(self, summary: &Both) -> Outcome {
         end_by(&summary.first.outcome, &summary.second.outcome)

@@ -1,17 +1,18 @@
 -- From one cut of a boot to the next, and the summary of the flash there.
-use Rattle.std.specs.Prelude.{◌≡◌, ℕ, ◌+◌, ◌<◌, List, [], ◌∷◌, ◌++◌, length, None, Option, Some, Result, Ok, Err, IfSome, refl}
+use Rattle.std.specs.Prelude.{◌≡◌, ℕ, ◌+◌, ◌<◌, List, [], ◌∷◌, ◌++◌, length, None, Option, Some, Result, Ok, Err, IfSome, refl, suc}
 use Rattle.std.proofs.Common.{arith, sym, ap, subst, ◌∙◌}
 use Rattle.mc_flash.specs.{Flash.{Content}, Geometry.{Geometry}, Usage.{Seen, Keeps, Spends, LeaveRoom, plus}, declared.op.Op.{Op}}
 use Rattle.mc_flash.specs.declared.flash.FlashError.{FlashError}
 use Rattle.mc_flash.specs.declared.flash.FlashError.TheVariants as errors
 use Rattle.mc_trailer.specs.declared.tables.Rules.{Rules}
-use Rattle.mc_boot.specs.{Joins.{IsCut}, Boot.{Progress, IsBootOf, Steps, all_of, begun, progress, left_of, HasCome}}
-use Rattle.mc_boot.specs.{Outcome.{Report, outcome_of, shown, left_by, ops_of}, SharedTail.{IsSharedTail}, declared.shared_tail.SharedTail.{SharedTail}}
-use Rattle.mc_boot.specs.{Plan.{plan, PowerOn, again, power_on, powered}, facts.Run.{come_begun, come_left, come_ops}}
+use Rattle.mc_boot.specs.{Joins.{IsCut}, Boot.{IsCold, Progress, IsBootOf, Steps, all_of, begun, progress, left_of, HasCome}}
+use Rattle.mc_boot.specs.{Outcome.{Report, at, outcome_of, shown, left_by, ops_of}, SharedTail.{IsSharedTail}, Twins.{HasTwin}, declared.shared_tail.SharedTail.{SharedTail}}
+use Rattle.mc_boot.specs.{Plan.{Plan, plan, PowerOn, again, power_on, powered}, facts.Run.{come_begun, come_left, come_ops}}
 use Rattle.mc_boot.specs.{facts.Steps.{refused_here, step_counts, step_spends, stepped_here}, declared.boot.Boot.{Boot}, declared.outcome.Outcome.{Outcome}}
-use Rattle.mc_walk.specs.TreeModel.{IsAt, IsChildOf, HasNext, ReachesNext}
-use Rattle.mc_explore.specs.{facts.Tails.{shared_like}, inner.LastCuts.{AreLike, AreSame, boot_at}, inner.OneRound.{at_cut, CanPass, GoesOnIn, IsBegun, IsOf, IsSummary, Passes, one_round}, Schedules.{EndsWith}}
-use Rattle.mc_explore.specs.{declared.one_round.Summary.{Summary}, facts.Occurring.{at_zero, come_lands}}
+use Rattle.mc_walk.specs.TreeModel.{IsAt, IsChildOf, IsTwin, HasNext, ReachesNext}
+use Rattle.mc_tree.specs.inner.Weights.{AreTwins}
+use Rattle.mc_explore.specs.{facts.Tails.{shared_like}, inner.LastCuts.{AreLike, AreSame, boot_at}, inner.OneRound.{at_cut, boots, CanPass, GoesOnIn, IsOf, IsSummary, Passes, one_round}, Schedules.{EndsWith}}
+use Rattle.mc_explore.specs.{declared.one_round.Summary.{Summary}, facts.Occurring.{at_is, at_zero, come_lands, lands_at}}
 
 -- Where a boot has come there, it has come on to here.
 abbrev pub ComesOn : Seen → Progress → Seen → Progress → Type 0
@@ -144,10 +145,40 @@ module _ (start : PowerOn) where
     left = lefts x (at_cut x i) (cut_here x i b f parent here.at_is here.some here.parent_is.1) here.child_is.1.layout_is here.child_is.1.boot_is;
   }
 
+  -- After a cut one operation later the same boot begins.
+  pub twin_here : (x : PowerOn) (i : ℕ) (b : Boot) (child : Summary) → (one_round start).IsOn x i b → (one_round start).IsSummary (boots.child x i) child → HasTwin x (at_cut x i) b.done
+      → IsTwin (one_round start) x i child
+  twin_here x i b child on is has =
+      let u : PowerOn = boots.child x i in
+      let t : PowerOn = again x has.twin in
+      let there : has.twin ≡ at_cut x (i + 1) = lands_at x has.twin (i + 1) (ap (λ n. at x (n + 1)) (sym on.1.count_is) ∙ has.twin_is) in
+      let P : Content → Type 0 = λ s. (one_round start).IsSummary (again x s) child × AreTwins boots (again x s) u in
+      let both : P has.twin = (
+        (
+          of_next x has.twin on.0,
+          record {
+            boot_is = is.1.boot_is ∙ ap (begun x.rules) has.alike.plan_is;
+            list_is = is.1.list_is ∙ ap (λ (p : Plan). p.list) has.alike.plan_is;
+            layout_is = is.1.layout_is;
+            at_most = rw (← has.alike.plan_is) is.1.at_most;
+            sized = has.sized;
+            outcome_is = sym has.alike.outcome_is ∙ is.1.outcome_is;
+          },
+        ),
+        record {
+          width = ap (λ (l : List Op). length l) (sym has.alike.ops_are);
+          one = ap (again t) (sym (at_zero t));
+          other = ap (again u) (sym (at_zero u));
+          later = λ j. ap (again x) (lands_at u (at_cut t (suc j)) (suc j) (has.alike.later j ∙ at_is t (suc j)));
+        },
+      ) in
+      let moved = subst P there both in
+      record { summary_is = moved.0; twins = moved.1 }
+
   -- What runs a boot, and a boot that was cut.
-  module _ (f : Seen) (b : Boot) (layout : f.geometry ≡ start.geometry) (begins : IsBegun start.rules f b) where
+  module _ (f : Seen) (b : Boot) (layout : f.geometry ≡ start.geometry) (begins : IsCold start.rules f b) where
     comes : HasCome (powered start.rules f) (progress b) f.content
-    comes = let P : Progress → Type 0 = λ p. HasCome (powered start.rules f) p f.content in subst P (sym begins.cold.boot) (come_begun (powered start.rules f))
+    comes = let P : Progress → Type 0 = λ p. HasCome (powered start.rules f) p f.content in subst P (sym begins.boot) (come_begun (powered start.rules f))
 
     pub summary_run : (outcome : Outcome) → EndsWith f (progress b) outcome → IsSummary (again start f.content) (record { boot = b; outcome = outcome })
     summary_run outcome ends = grind arith

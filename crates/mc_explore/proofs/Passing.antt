@@ -1,12 +1,13 @@
 -- A walk that passes the nodes below a node, child by child.
-use Rattle.std.proofs.Common.{Bool, IfSome, List, None, Option, Some, [], ap, append-nil, append_assoc, arith, false, subst, suc, sym, true, zero, ℕ, ◌++◌, ◌+◌, ◌∙◌, ◌∷◌, ◌≡◌, ◌≤◌}
+use Rattle.std.proofs.Common.{Bool, refl, ◌-◌, IfSome, List, None, Option, Some, [], ap, append-nil, append_assoc, arith, false, subst, suc, sym, true, zero, ℕ, ◌++◌, ◌+◌, ◌∙◌, ◌∷◌, ◌≡◌, ◌≤◌}
 use Rattle.std.proofs.lemmas.List.{same_from_push}
 use Rattle.mc_boot.specs.{Outcome.{Report}, declared.shared_tail.SharedTail.{SharedTail}}
 use Rattle.mc_explore.proofs.Counting.{Census}
 use Rattle.mc_explore.specs.{Right.{judged}, declared.expectation.Expectation.{Expectation}, facts.Children.{HasCome, child_here, IsAtChild}}
-use Rattle.mc_explore.specs.{inner.Table.{HasWeights, IsTailOf, PassesBelow, ReachesChild, own_totals, paths_of, weigh}, inner.Totals.{cut_off, report_totals}}
-use Rattle.mc_tree.specs.{Tree.{Allowed, landed}, facts.Order.{HasPassed, next_child, passed_all, some_child}, inner.Weights.{path_tree}}
-use Rattle.mc_walk.specs.{TreeModel.{IsChildOf, TreeModel}, Walks.{Climbs, IsLastStep, IsSame, IsThere, Walked}}
+use Rattle.mc_explore.specs.{facts.Totals.{totals_weigh}, inner.Table.{GoesOnAlike, HasWeights, IsTailOf, PassesBelow, ReachesChild, own_totals, paths_of, weigh, weigh_below}, inner.Totals.{Totals, cut_off, report_totals, totals}}
+use Rattle.mc_tree.specs.{Tree.{Allowed, landed}, facts.Order.{HasPassed, landed-push, next_child, passed_all, some_child}, facts.Weighed.{twins_weigh}}
+use Rattle.mc_tree.specs.inner.Weights.{AreTwins, WeighAlike, path_tree}
+use Rattle.mc_walk.specs.{TreeModel.{IsChildOf, TreeModel}, Walks.{Climbs, IsBeforeTwin, IsLastStep, IsSame, IsThere, Walked}}
 use Rattle.mc_walk.specs.declared.frame.Frame.{Frame}
 
 module _ {N A T B : Type 0} (k : TreeModel N A T) where
@@ -33,6 +34,27 @@ module _ {N A T B : Type 0} (k : TreeModel N A T) where
       let at = subst (λ p. IsChildOf k (landed k.tree k.root p) f.number f.at f.parent summary w.seen) same.0 (child_here k w f summary there step) in
       found e l number (subst (λ i. IsChildOf k (landed k.tree k.root l) i f.at f.parent summary w.seen) same.1 at)
 
+  -- The next child is a twin, and its path ends as this one does.
+  pub alike_next : (w : Walked B) (summary : T) (report_of : List ℕ → Report) (outcome : Report) → IsBeforeTwin k w summary
+      → ((path : List ℕ) → k.IsSummary (landed k.tree k.root path) summary → outcome ≡ report_of path)
+      → ((path other : List ℕ) → landed k.tree k.root path ≡ landed k.tree k.root other → report_of path ≡ report_of other) → (e : Expectation) (l : List ℕ) (number : ℕ) → w.path ≡ l ++ number ∷ []
+      → WeighAlike totals (paths_of k) (own_totals (paths_of k) report_of e) (l ++ (number + 1) ∷ []) (l ++ number ∷ [])
+  alike_next w summary report_of outcome before ended same_end e l number is =
+      let same = same_from_push before.before l before.number number (sym before.path_is ∙ is) in
+      let own : List ℕ → Totals = own_totals (paths_of k) report_of e in
+      let P : List ℕ → ℕ → Type 0 = λ x i. own (x ++ (i + 1) ∷ []) ≡ own (x ++ i ∷ []) in
+      let Q : List ℕ → ℕ → Type 0 = λ x i. AreTwins k.tree (landed k.tree k.root (x ++ (i + 1) ∷ [])) (landed k.tree k.root (x ++ i ∷ [])) in
+      let b = before.before in
+      let n = before.number in
+      let R : N → Type 0 = λ m. k.IsSummary m summary in
+      let here = ended (b ++ n ∷ []) (subst R (sym (landed-push k.tree k.root b n)) before.summary_is) in
+      let there = ended (b ++ (n + 1) ∷ []) (subst R (sym (landed-push k.tree k.root b (n + 1))) before.twin.summary_is) in
+      let ends : P b n = ap (λ o. report_totals (judged e o)) (sym there ∙ here) in
+      let twins : Q b n = rw (landed-push k.tree k.root b n, landed-push k.tree k.root b (n + 1)) before.twin.twins in
+      let moved : P l number = subst (P l) same.1 (subst (λ x. P x n) same.0 ends) in
+      let twins_moved : Q l number = subst (Q l) same.1 (subst (λ x. Q x n) same.0 twins) in
+      twins_weigh totals totals_weigh k.tree k.root own (λ p q e'. ap (λ o. report_totals (judged e o)) (same_end p q e')) (l ++ (number + 1) ∷ []) (l ++ number ∷ []) moved twins_moved
+
 -- The children of the node where a walk stood, one after another.
 module _ {N A T B : Type 0} (model : B → TreeModel N A T) (old : Walked B) where
   abbrev k : TreeModel N A T
@@ -58,6 +80,16 @@ module _ {N A T B : Type 0} (model : B → TreeModel N A T) (old : Walked B) whe
       pub own_there : (report judged_report : Report) → report ≡ report_of at.flash_tree at.path → judged_report ≡ judged e report
           → own_totals (paths_of k) (report_of old.flash_tree) e (old.path ++ number ∷ []) ≡ report_totals judged_report
       own_there report judged_report is judged_is = grind arith
+
+  -- The next child has the totals of the one at which the walk stands.
+  pub alike_before : (report_of : B → List ℕ → Report) (e : Expectation) (number : ℕ) (now : Walked B) → IsSame old now → 1 ≤ number → now.path ≡ old.path ++ (number - 1) ∷ []
+      → GoesOnAlike model report_of now → (d : ℕ)
+      → weigh_below (paths_of k) (report_of old.flash_tree) e old.path d number ≡ weigh_below (paths_of k) (report_of old.flash_tree) e old.path d (number - 1)
+  alike_before report_of e number now same some path alike zero = refl
+  alike_before report_of e number now same some path alike (suc d) =
+      let next : number - 1 + 1 ≡ number = omega (arith, some) in
+      let P : B → ℕ → Type 0 = λ b c. weigh (paths_of (model b)) (report_of b) e d (old.path ++ c ∷ []) ≡ weigh (paths_of (model b)) (report_of b) e d (old.path ++ (number - 1) ∷ []) in
+      subst (P old.flash_tree) next (subst (λ b. P b (number - 1 + 1)) same.flash_tree (alike e old.path (number - 1) path d))
 
   -- At the root of the walk.
   pub root_weighs : (now : Walked B) (report_of : B → List ℕ → Report) (e : Expectation) (bound : ℕ) (census : Census) → IsSame old now → now.path ≡ []

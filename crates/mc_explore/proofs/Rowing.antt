@@ -1,19 +1,12 @@
 -- The next row, by how a tour stands with the last one, also where the outcomes of last cuts are kept.
-use Rattle.std.proofs.{Common.{add-one, ap, arith, inl, inr, length-append, subst, sym, ◌∙◌}, lemmas.Option.{slice_get_cases, slice_get_within}}
-use Rattle.std.proofs.lemmas.List.{same_from_push}
-use Rattle.std.specs.Prelude.{Bool, IfSome, IsSomeAnd, List, None, Option, Some, [], false, is_some, option_map, length, refl, slice_get, suc, true, zero, ℕ, ◌++◌, ◌+◌, ◌-◌, ◌<◌, ◌^◌, ◌∷◌, ◌≡◌, ◌≢◌, ◌≤◌, ◌⊎◌}
-use Rattle.mc_boot.specs.{Boot.{begun, progress}, Joins.{IsCut}, Outcome.{Report, ops_of, outcome_of, shown}, Plan.{PowerOn, again, plan, power_on, powered}}
-use Rattle.mc_boot.specs.{SharedTail.{IsSharedTail, index_in_parent}, declared.boot.Boot.{Boot}, declared.outcome.Outcome.{Outcome}}
-use Rattle.mc_boot.specs.declared.shared_tail.SharedTail.{SharedTail}
-use Rattle.mc_explore.proofs.Onwards.{joined_here}
-use Rattle.mc_explore.specs.{declared.ahead.RowsAhead.{RowsAhead}, declared.at_cuts.AtCuts.{AtCuts}, declared.at_cuts.Joined.{Joined}, declared.one_round.OneRound.{OneRound}, declared.one_round.Summary.{Summary}}
-use Rattle.mc_explore.specs.{facts.Occurring.{at_zero, landed_again}, facts.Tails.{placed_at}, facts.Summaries.{width_is}}
+use Rattle.std.proofs.{Common.{add-one, ap, arith, length-append, subst, sym, ◌∙◌}}
+use Rattle.std.specs.Prelude.{Bool, IfSome, IsSomeAnd, List, None, Option, Some, [], false, is_some, option_map, length, refl, suc, true, zero, ℕ, ◌++◌, ◌+◌, ◌<◌, ◌∷◌, ◌≡◌, ◌≢◌, ◌≤◌}
+use Rattle.mc_boot.specs.{Outcome.{shown}}
+use Rattle.mc_explore.specs.{declared.ahead.RowsAhead.{RowsAhead}}
 use Rattle.mc_explore.specs.inner.Exploring.{AreBeyond, AreFresh, IsAtPhase, IsInStep, IsRowing, IsSpent, StandsFor, last_of, with_last}
-use Rattle.mc_flash.specs.Flash.{Content}
-use Rattle.mc_trailer.specs.declared.tables.Rules.{Rules}
-use Rattle.mc_tree.specs.{Tree.{After, Allowed, IsNext, Position, landed}, facts.Order.{allowed-last, allowed-push, landed-push, next_after, next_below}}
-use Rattle.mc_walk.specs.{TreeModel.{IsAt, TreeModel}, Walks.{IsLastStep, IsPath, IsThere, Toured, Visits, Walked, position_of}}
-use Rattle.mc_walk.specs.{declared.frame.Frame.{Frame}, declared.tour.Phase.{Phase}, declared.tour.Phase.TheVariants.{Broken, Done, Fresh, Going}}
+use Rattle.mc_tree.specs.{Tree.{After, IsNext, Position, landed}, facts.Order.{allowed-push, next_after, next_below}}
+use Rattle.mc_walk.specs.{TreeModel.{TreeModel}, Walks.{IsPath, Toured, Visits, Walked, position_of}}
+use Rattle.mc_walk.specs.{declared.tour.Phase.{Phase}, declared.tour.Phase.TheVariants.{Broken, Done, Fresh, Going}}
 use Rattle.mc_walk.specs.facts.Same.{path_back, same_back}
 
 -- The next row, by how a tour stands with the last one.

@@ -115,6 +115,18 @@ module _ (runs : List Run) (n : ℕ) (split : IsSplit runs n) where
       inside below (inl lt) = later lt
       inside below (inr past) = omega (arith, ends past, below)
 
+some_runs : (runs : List Run) → (runs ≡ [] → ⊥) → 1 ≤ length runs
+some_runs [] some = absurd (some refl)
+some_runs (run ∷ runs) some = omega arith
+
+last_run : (runs : List Run) → 1 ≤ length runs → (run : Run) × (slice_get runs (length runs - 1) ≡ Some run)
+last_run [] some = absurd (omega (arith, some))
+last_run (run ∷ []) some = (run, refl)
+last_run (run ∷ next ∷ runs) some =
+    let r = last_run (next ∷ runs) (omega arith) in
+    let at : length (run ∷ next ∷ runs) - 1 ≡ suc (length (next ∷ runs) - 1) = omega arith in
+    (r.0, ap (slice_get (run ∷ next ∷ runs)) at ∙ r.1)
+
 -- One child more: in the last run, or in one of its own.
 module _ (runs : List Run) (number : ℕ) (split : IsSplit runs number) where
   -- Where the runs end of so many children, and of one more.
@@ -211,6 +223,18 @@ module _ (under : ℕ → ℕ → Totals) (n most : ℕ) (none : (i : ℕ) → u
               | inl before ↦ are.alike r i lt (omega (arith, here, le)) (omega (arith, old_end, before)) d ∙ ap (under d) (sym here)
               | inr after ↦ let e : i ≡ number = omega (arith, after, below, end) in ap (under d) e ∙ same d ∙ ap (under d) (sym (here ∙ begins))
             ]
+
+    -- A child more that has the totals of the one before.
+    pub twin_more : 1 ≤ number → ((d : ℕ) → under d number ≡ under d (number - 1)) → AreRuns under n most (number + 1) runs
+    twin_more some same =
+        let nonempty = some_runs runs (λ none. omega (arith, some, are.split.begin, ap (λ (l : List Run). begin_of l number 0) none)) in
+        let last = last_run runs nonempty in
+        let r : ℕ = length runs - 1 in
+        let next : suc r ≡ length runs = omega (arith, nonempty) in
+        let rising = are.split.rising r (omega (arith, nonempty)) in
+        let end = ap (begin_of runs number) next ∙ begin_end runs number in
+        let begins = begin_is runs number r last.0 last.1 in
+        last_more last.0 last.1 (λ d. same d ∙ are.alike r (number - 1) (omega (arith, nonempty)) (omega (arith, rising, end)) (omega (arith, end, some)) d ∙ ap (under d) begins)
 
     -- A child more that makes a run of its own.
     pub run_more : (run : Run) → run.first ≡ number → IsChild under n most number run.outcome run.below → AreRuns under n most (number + 1) (runs ++ run ∷ [])

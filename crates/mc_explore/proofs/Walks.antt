@@ -1,13 +1,13 @@
 -- A walk from a start along a schedule.
 use Rattle.std.proofs.{Common.{ap, arith, subst, sym, ◌∙◌}, Math.Nat.{mul-le-mul_right}, lemmas.List.{length-take-le}}
-use Rattle.std.specs.Prelude.{Bool, List, None, Option, Some, [], false, is_some, length, refl, suc, take, true, ℕ, ◌*◌, ◌++◌, ◌+◌, ◌∷◌, ◌≡◌, ◌≤◌}
-use Rattle.mc_boot.specs.{Boot.{Progress, left_of, progress}, Outcome.{after, ops_of, shown}, Plan.{PowerOn, again}, facts.Bounds.{few_ops}, facts.Run.{come_left}}
-use Rattle.mc_explore.proofs.Onwards.{ComesOn, of_next}
-use Rattle.mc_explore.specs.{Rows.{subject}, Schedules.{CanOccur, CannotOccurAt, IsReplayed}, declared.one_round.OneRound.{OneRound}}
-use Rattle.mc_explore.specs.{declared.one_round.Summary.{Summary}, facts.Following.{cost_few}, facts.Occurring.{allowed_after, landed_again, occurs_allowed, path_of}, inner.Exploring.{FollowsKey}}
-use Rattle.mc_explore.specs.{inner.OneRound.{IsOf, IsSummary, at_cut, begins, begun_of, boots, one_round}, inner.View.{Followed, IsLoaded}}
-use Rattle.mc_flash.specs.{Flash.{Content}, Geometry.{IsLayout}, Usage.{Allows, Limits, Seen, Spent, most_operations}}
-use Rattle.mc_tree.specs.{Tree.{Allowed, landed}, facts.Order.{allowed_prefix}}
+use Rattle.std.specs.Prelude.{Bool, List, None, Option, Some, [], false, is_some, length, refl, take, true, ℕ, ◌*◌, ◌++◌, ◌+◌, ◌≡◌, ◌≤◌}
+use Rattle.mc_boot.specs.{Boot.{Progress, left_of, progress}, Outcome.{after, shown}, Plan.{PowerOn, again}, facts.Run.{come_left}}
+use Rattle.mc_explore.proofs.Onwards.{ComesOn}
+use Rattle.mc_explore.specs.{Schedules.{CanOccur, CannotOccurAt, IsReplayed}, declared.one_round.OneRound.{OneRound}}
+use Rattle.mc_explore.specs.{declared.one_round.Summary.{Summary}, facts.Following.{cost_few}, facts.Occurring.{allowed_after, landed_again, occurs_allowed}}
+use Rattle.mc_explore.specs.{inner.OneRound.{IsSummary, begins, begun_of, boots, one_round}, inner.View.{Followed, IsLoaded}}
+use Rattle.mc_flash.specs.{Flash.{Content}, Usage.{Allows, Limits, Seen, Spent, most_operations}}
+use Rattle.mc_tree.specs.{Tree.{Allowed, landed}}
 use Rattle.mc_walk.specs.{TreeModel.{summary_cost}, Walks.{Begins, Follows, IsSame, IsThere, Walked, path_cost}}
 use Rattle.mc_tree.specs.Tree as tree
 

@@ -39,6 +39,11 @@ pub trait Ending: FlashTree {
             path) i at.now parent.now child.now (F.seen flash.now)
             → IsTailOf (path_tree (Self.model self).tree (Self.model self).root)
             (report_of self) e path i x) };
+
+    ghost same_end: { (b : Self) (path other : List ℕ)
+        → landed (Self.model b).tree (Self.model b).root path
+        ≡ landed (Self.model b).tree (Self.model b).root other
+        → report_of b path ≡ report_of b other };
 }
 
 /// A subject whose rows are counted by a table of its paths.

@@ -1,9 +1,8 @@
 //! The tree of boots that are cut: a node is what a boot begins with, and its child of a number is what the next one begins with
 //! where that boot is cut before its operation of that number.
 
-use mc_boot::{Boot, Outcome, SharedTail, outcome_after};
-use mc_flash::{Flash, Slot};
-use mc_image::are_bytes;
+use mc_boot::{Boot, Outcome, SharedTail, has_twin, outcome_after};
+use mc_flash::Flash;
 use mc_start::Start;
 use mc_walk::FlashTree;
 use std::alloc::AllocError;
@@ -23,16 +22,16 @@ pub struct OneRound<'a> {
 
 impl<'a> OneRound<'a> {
     ghost use Rattle.std.specs.Prelude.{◌≡◌, ℕ, Some, IfOk, IfErr, IfSome, OnOk};
+    ghost use Rattle.mc_boot.specs.Boot.{IsCold};
     ghost use Rattle.mc_boot.specs.Plan.{PowerOn, again};
     ghost use Rattle.mc_flash.specs.Usage.{Keeps, Allows, HasRoom, Spends, Stays};
     ghost use Rattle.mc_walk.specs.TreeModel.{HasChild, IsChild, IsChildOf, IsChildSummary};
-    ghost use Rattle.mc_explore.specs.inner.OneRound.{begins, one_round, most_of, BeginsOn, CanPass, CountsAtMost, GoesOnIn, HasRun, IsBegun, IsSummary, LeavesAlike, Passes};
+    ghost use Rattle.mc_explore.specs.inner.OneRound.{begins, one_round, most_of, BeginsOn, CanPass, CountsAtMost, GoesOnIn, HasRun, IsSummary, LeavesAlike, Passes};
 
     /// The boot at power-on from a flash. The secondary's image is hashed where it is none that the start is known to hold.
     pub fn boot<F: Flash>(&self, flash: &F) -> Boot
-        ensures { IsBegun (begins self.now).rules (F.seen flash.now) result }
+        ensures { IsCold (begins self.now).rules (F.seen flash.now) result }
     {
-        are_bytes(flash.read(Slot::Secondary));
         Boot::cold_among(flash, self.start.rules(), &self.start.known())
     }
 
@@ -83,7 +82,7 @@ impl<'a> OneRound<'a> {
             parent.now (F.seen flash.now)) }
         ensures left { OnOk result (LeavesAlike (begins self.now) at.now parent.now
             (F.seen flash.now)) }
-        ensures begun { IfErr result (IsBegun (begins self.now).rules (F.seen flash.now)) }
+        ensures begun { IfErr result (IsCold (begins self.now).rules (F.seen flash.now)) }
     {
         // Before its first operation a boot has changed nothing.
         if at.count() == 0 {
@@ -154,6 +153,10 @@ impl FlashTree for OneRound<'_> {
 
     fn width(self, summary: &Summary) -> u32 {
         summary.outcome.ops
+    }
+
+    fn has_twin(self, at: &Boot, child: &Summary) -> bool {
+        has_twin(self.start.layout(), at, &child.boot)
     }
 
     fn first_child<F: Flash>(self, _flash: &mut F, summary: &Summary) -> Result<Boot, AllocError> {

@@ -238,10 +238,12 @@ impl<'a> OfStart<'a> for OneRound<'a> {
 }
 
 impl Ending for OneRound<'_> {
-    ghost use Rattle.mc_explore.specs.facts.Listed.{report_after};
+    ghost use Rattle.mc_explore.specs.facts.Listed.{report_after, same_end};
     ghost use Rattle.mc_explore.specs.inner.OneRound.{begins};
 
     ghost report_of = { λ o path. report_after (begins o) path };
+
+    ghost same_end = { λ o. same_end (begins o) };
 
     fn ended(self, summary: &Summary) -> Outcome {
         summary.outcome

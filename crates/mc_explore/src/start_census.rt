@@ -4,7 +4,7 @@ ghost use Rattle.mc_boot.specs.Outcome.{shown};
 ghost use Rattle.mc_start.specs.Start.{begun};
 ghost use Rattle.mc_explore.specs.Census.{IsCensus, IsCensusOf};
 ghost use Rattle.mc_explore.specs.Right.{AreRights, judged};
-ghost use Rattle.mc_explore.specs.inner.Table.{CanPass, HasSameLimits, HasWeights, IsTailHere, PassesBelow, ReachesChild, paths_of};
+ghost use Rattle.mc_explore.specs.inner.Table.{CanPass, GoesOnAlike, HasSameLimits, HasWeights, IsTailHere, PassesBelow, ReachesChild, paths_of};
 ghost use Rattle.mc_walk.specs.Walks.{IsPath};
 
 use crate::census::{Census, CensusOf};
@@ -81,6 +81,19 @@ fn visit_child<F: Flash, X: Ending>(walk: &mut Walk<F, X>, number: u32) -> Resul
     })
 }
 
+// Whether the next child of the node before surely has the censuses of the one where a walk stands.
+fn goes_on_alike<F: Flash, X: Ending>(walk: &Walk<F, X>) -> bool
+    requires { walk.now.stands ≡ true }
+    ensures { result ≡ true → GoesOnAlike X.model X.report_of walk.now }
+{
+    let Some(summary) = walk.next_twin() else {
+        return false;
+    };
+    // It ends as this one does.
+    let _outcome = walk.flash_tree().ended(&summary);
+    true
+}
+
 // The censuses of the node where a walk stands, for each bound up to that one. The walk passes all that lies below the node. Of a
 // child whose boot goes on with that of the node the node's other children are enough; it goes below another one alone.
 fn column<F: Flash, X: Ending>(
@@ -106,8 +119,15 @@ fn column<F: Flash, X: Ending>(
     }
     let count = flash_tree.width(&summary);
     let mut runs = Vec::new(alloc);
+    // Whether the walk stands at the child before.
+    let mut is_there = false;
     for number in 0..count {
+        if is_there && goes_on_alike(walk) {
+            go_to_child(walk, number)?;
+            continue;
+        }
         let end = visit_child(walk, number)?;
+        is_there = end.tail.is_some();
         let below = match end.tail {
             Some(shared_tail) => Below::Joined(shared_tail),
             None => Below::Apart(column(alloc, walk, bound - 1, expectation)?),

@@ -26,6 +26,12 @@ last_same all xs x f split last =
     let index_is : length all - 1 ≡ length xs = omega (arith, ap length split, length-append xs (x ∷ [])) in
     same_Some x f (sym (last_at xs x) ∙ ap (λ z. slice_get z (length xs)) (sym split) ∙ ap (slice_get all) (sym index_is) ∙ last)
 
+-- A list has one last element.
+pub one_last : {X : Type 0} (all xs ys : List X) (x y : X) → all ≡ xs ++ x ∷ [] → all ≡ ys ++ y ∷ [] → x ≡ y
+one_last all xs ys x y p q =
+    let index_is : length all - 1 ≡ length ys = omega (arith, ap length q, length-append ys (y ∷ [])) in
+    last_same all xs x y p (ap (λ z. slice_get z (length all - 1)) q ∙ ap (slice_get (ys ++ y ∷ [])) index_is ∙ last_at ys y)
+
 module _ {N A T : Type 0} (k : TreeModel N A T) where
   pub none_off : (fs : List (Frame A T)) → AreOff k fs fs
   none_off fs = record { more = []; spent = tt; split = sym (append-nil fs) }
@@ -181,14 +187,37 @@ module _ {N A T : Type 0} (k : TreeModel N A T) where
   pub child_here : (seen mid : Seen) (fs : List (Frame A T)) (f : Frame A T) → Comes k seen fs f → mid ≡ marked seen → IsChild k f.at f.parent mid
   child_here seen mid fs f c m = (node_of k fs, f.number, at_child seen mid fs f c m, c.frame.some, c.frame.summary_is)
 
-  -- The same, by the result of the call.
+  -- The same, by the result of the call, which gives the summary of that child.
   pub entered_summary : {E : Type 0} (seen mid new : Seen) (fs all : List (Frame A T)) (f : Frame A T) (r : Result T E) → Comes k seen fs f
-      → mid ≡ marked seen → all ≡ fs ++ f ∷ [] → IfOk r (IsChildSummary k f.at f.parent mid) → OnOk r (Stays mid new) → IfOk r (λ summary. Stands k new all summary)
+      → mid ≡ marked seen → all ≡ fs ++ f ∷ [] → (IsAt k (node_of k fs) f.number f.at mid → f.number < k.tree.width (node_of k fs) → k.IsSummary (node_of k fs) f.parent
+      → IfOk r (k.IsSummary (k.tree.child (node_of k fs) f.number))) → OnOk r (Stays mid new) → IfOk r (λ summary. Stands k new all summary)
   entered_summary seen mid new fs all f (Ok summary) c m a t s =
       let s' : Stays (marked seen) new = subst (λ z. Stays z new) m s in
-      let summary_is = t (node_of k fs) f.number (at_child seen mid fs f c m) c.frame.some c.frame.summary_is in
+      let summary_is = t (at_child seen mid fs f c m) c.frame.some c.frame.summary_is in
       subst (λ z. Stands k new z summary) (sym a) (entered seen new fs f summary c s' summary_is)
   entered_summary seen mid new fs all f (Err e) c m a t s = tt
+
+  -- A summary of the child of any node is that of this one's.
+  pub given_there : {E : Type 0} (mid : Seen) (at : A) (parent : T) (r : Result T E) (n : N) (i : ℕ) → IfOk r (IsChildSummary k at parent mid) → IsAt k n i at mid → i < k.tree.width n
+      → k.IsSummary n parent → IfOk r (k.IsSummary (k.tree.child n i))
+  given_there mid at parent it n i gives here some is = grind arith
+
+  -- Twins.
+
+  spent_last : (f : Frame A T) (fs : List (Frame A T)) → AreSpent k (f ∷ fs) → (before : List (Frame A T)) × (last : Frame A T) × (f ∷ fs ≡ before ++ last ∷ []) × IsSpent k last
+  spent_last f [] spent = ([], f, refl, spent.0)
+  spent_last f (g ∷ fs) spent = let r = spent_last g fs spent.1 in (f ∷ r.0, r.1, ap (λ z. f ∷ z) r.2, r.3)
+
+  -- Where the last frame is open none is taken off.
+  pub none_spent : (checkpoints : List Checkpoint) (all before more : List (Frame A T)) → Stacked k checkpoints all → ((xs : List (Frame A T)) (f : Frame A T) → all ≡ xs ++ f ∷ [] → IsOpen k f)
+      → all ≡ before ++ more → AreSpent k more → more ≡ []
+  none_spent checkpoints all before [] st open_is split spent = refl
+  none_spent checkpoints all before (f ∷ fs) st open_is split spent =
+      let last = spent_last f fs spent in
+      let parts : all ≡ (before ++ last.0) ++ last.1 ∷ [] = split ∙ ap (λ z. before ++ z) last.2 ∙ sym (append_assoc before last.0 (last.1 ∷ [])) in
+      let here = (among k.root 0 st.above (before ++ last.0) last.1 [] (subst (AreFrames k k.root 0 st.above) parts st.frames)).frame.summary_is in
+      let n : N = landed k.tree k.root (path_of (before ++ last.0)) in
+      absurd (omega (arith, last.3 n here, open_is (before ++ last.0) last.1 parts n here))
 
   -- Frames are taken off, and the flash is back at the checkpoint of the last of them.
   pub popped : (seen : Seen) (all fs : List (Frame A T)) (f : Frame A T) (more : List (Frame A T)) → Stacked k seen.checkpoints all

@@ -1,13 +1,13 @@
 -- A walk on its way to a further node.
-use Rattle.std.proofs.Common.{◌≡◌, ℕ, ◌+◌, ◌*◌, ◌<◌, ◌≤◌, true, false, List, [], ◌∷◌, ◌++◌, length, Option, Some, None, Result, Ok, OnOk, IfSome, is_some, slice_index_or, slice_set, ◌-◌, length-append, refl, sym, ap, subst, ◌∙◌, arith}
+use Rattle.std.proofs.Common.{◌≡◌, ℕ, ◌+◌, ◌*◌, ◌<◌, ◌≤◌, true, false, List, [], ◌∷◌, ◌++◌, length, Option, Some, None, Result, Ok, OnOk, IfSome, is_some, slice_index_or, slice_set, ◌-◌, length-append, append-nil, append_assoc, refl, sym, ap, subst, ◌∙◌, arith}
 use Rattle.std.proofs.lemmas.List.{map-append, length-map, get_or_at, set_at}
 use Rattle.mc_tree.specs.{Tree.{Allowed}, facts.Order.{IsNextBeyond, allowed-last, none_beyond, next_beyond}}
 use Rattle.mc_flash.specs.Usage.{Counts, Checkpoint, Seen, Keeps, checkpoint_of, went_back, marked, Spent, Spends, Stays, HasRoom, LeaveRoom, plus, room_of}
 use Rattle.mc_flash.specs.{facts.Spends.{spent_back, spent_both, spent_more}, declared.flash.FlashError.{FlashError}}
-use Rattle.mc_walk.specs.TreeModel.{TreeModel, owed_there, summary_cost, IsAt, IsParent, HasNext, ReachesNext, CanReach}
-use Rattle.mc_walk.specs.inner.Stack.{path_of, most_at, AreSpent, IsLastOpen, AreFrames, Stacked, node_of, Stands, Comes, CanGoOn, IsLeft, IsOneOn, IsRoomy}
-use Rattle.mc_walk.specs.{Walks.{walked, IsFresh, Begins, IsThere, IsGoing, IsLastStep, IsPath, GoesDown, Climbs}, declared.frame.Frame.{Frame}}
-use Rattle.mc_walk.proofs.Stacks.{path-push, no_path, frames_allowed, frames_last, among, node-push, length-stack, popped}
+use Rattle.mc_walk.specs.TreeModel.{IsTwin, TreeModel, owed_there, summary_cost, IsAt, IsParent, HasNext, ReachesNext, CanReach}
+use Rattle.mc_walk.specs.inner.Stack.{path_of, most_at, AreSpent, IsLastOpen, AreFrames, Stacked, node_of, Stands, Comes, CanGoOn, IsKnown, IsLeft, IsOneOn, IsOpen, IsRoomy, IsTwinOn}
+use Rattle.mc_walk.specs.{Walks.{walked, IsBeforeTwin, IsFresh, Begins, IsThere, IsGoing, IsLastStep, IsPath, GoesDown, Climbs}, declared.frame.Frame.{Frame}}
+use Rattle.mc_walk.proofs.Stacks.{path-push, no_path, frames_allowed, frames_last, among, node-push, none_spent, one_last, length-stack, popped}
 
 pub ok_any : {X E P : Type 0} (r : Result X E) → P → OnOk r P
 ok_any it p = grind arith
@@ -316,3 +316,50 @@ module _ {N A T : Type 0} (k : TreeModel N A T) where
     record { flash_tree = refl; bound = refl },
     refl,
   )
+
+  -- The next child of the node before it is a twin.
+  module _ (bound : ℕ) (seen : Seen) (all : List (Frame A T)) (stood : Option T) (summary : T) (going : IsGoing k bound seen all summary) (on : IsTwinOn k all stood summary) where
+    last_same : (fs : List (Frame A T)) (f : Frame A T) → all ≡ fs ++ f ∷ [] → f ≡ on.frame
+    last_same fs f split = one_last all fs on.before f on.frame split on.frames_are
+
+    pub twin_at : (fs : List (Frame A T)) (f : Frame A T) → all ≡ fs ++ f ∷ [] → (f.number + 1 < k.tree.width (node_of k fs)) × k.IsSummary (k.tree.child (node_of k fs) f.number) summary
+        × IsTwin k (node_of k fs) f.number summary
+    twin_at fs f split =
+        let s = going.stands in
+        let frame = (among k k.root 0 s.stacked.above fs f [] (subst (AreFrames k k.root 0 s.stacked.above) split s.stacked.frames)).frame in
+        let is = last_same fs f split in
+        let more = (subst (IsOpen k) (sym is) on.open_is) (node_of k fs) frame.summary_is in
+        let here : k.IsSummary (k.tree.child (node_of k fs) f.number) summary = subst (λ n. k.IsSummary n summary) (ap (node_of k) split ∙ node-push k fs f) s.summary_is in
+        (more, here, on.twin (node_of k fs) f.number (subst (λ (z : Frame A T). k.IsOn (node_of k fs) f.number z.at) is frame.on_is) more here)
+
+    pub before_twin : {B : Type 0} (b : B) → IsBeforeTwin k (walked b bound seen all stood) summary
+    before_twin b =
+        let t = twin_at on.before on.frame on.frames_are in
+        record {
+          before = path_of on.before;
+          number = on.frame.number;
+          path_is = ap path_of on.frames_are ∙ path-push on.before on.frame;
+          more = t.0;
+          summary_is = t.1;
+          twin = t.2;
+        }
+
+    -- No frame is taken off.
+    pub none_left : (left : List (Frame A T)) → IsLeft k all left → left ≡ all
+    none_left left l =
+        let parts : all ≡ left ++ l.last.more = l.last.split ∙ sym (append_assoc l.before (l.frame ∷ []) l.last.more) ∙ ap (λ z. z ++ l.last.more) (sym l.frames_are) in
+        let none = none_spent k seen.checkpoints all left l.last.more going.stands.stacked (λ fs f split. subst (IsOpen k) (sym (last_same fs f split)) on.open_is) parts l.last.spent in
+        sym (parts ∙ ap (λ z. left ++ z) none ∙ append-nil left)
+
+  pub known_next : (bound : ℕ) (seen : Seen) (all left : List (Frame A T)) (stood twin : Option T) → IfSome stood (IsGoing k bound seen all) → IsLeft k all left
+      → IfSome twin (IsTwinOn k all stood) → IsKnown k left twin
+  known_next bound seen all left stood None going l on = λ fs f split. tt
+  known_next bound seen all left stood (Some summary) going l on = λ fs f split.
+      let here : IsGoing k bound seen all summary = subst (λ o. IfSome o (IsGoing k bound seen all)) on.stood_is going in
+      (twin_at bound seen all stood summary here on fs f (sym (none_left bound seen all stood summary here on left l) ∙ split)).2.summary_is
+
+  pub before_next : {B : Type 0} (b : B) (bound : ℕ) (seen : Seen) (all : List (Frame A T)) (stood twin : Option T) → IfSome stood (IsGoing k bound seen all)
+      → IfSome twin (IsTwinOn k all stood) → IfSome twin (IsBeforeTwin k (walked b bound seen all stood))
+  before_next b bound seen all stood None going on = tt
+  before_next b bound seen all stood (Some summary) going on =
+      before_twin bound seen all stood summary (subst (λ o. IfSome o (IsGoing k bound seen all)) on.stood_is going) on b

@@ -1,6 +1,6 @@
 -- A kind of tree over the contents of a flash.
 use Rattle.std.specs.Prelude.{◌≡◌, ℕ, ◌+◌, ◌<◌, ◌≤◌, Option, Some, None, Result, Ok, Err}
-use Rattle.mc_tree.specs.Tree.{Tree}
+use Rattle.mc_tree.specs.{Tree.{Tree}, inner.Weights.{AreTwins}}
 use Rattle.mc_flash.specs.{Flash.{Content}, Geometry.{Geometry}, Usage.{Counts, no_counts, Seen, Allows, LeaveRoom, plus}}
 
 pub record TreeModel (N A T : Type 0) : Type 1 where
@@ -100,3 +100,8 @@ module _ {N A T : Type 0} (k : TreeModel N A T) where
 
   abbrev pub HasChild : A → T → T → Seen → Type 0
   HasChild at parent child seen = (n : N) × (i : ℕ) × IsChildOf n i at parent child seen
+
+  -- The next child of a node is a twin of that one, and has the same summary.
+  pub record IsTwin (n : N) (i : ℕ) (summary : T) : Type 0 where
+    pub summary_is : k.IsSummary (k.tree.child n (i + 1)) summary
+    pub twins : AreTwins k.tree (k.tree.child n (i + 1)) (k.tree.child n i)

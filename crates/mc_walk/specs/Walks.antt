@@ -2,7 +2,7 @@
 use Rattle.std.specs.Prelude.{Bool, Err, IfSome, List, Ok, Option, Result, [], false, is_some, length, take, true, ℕ, ◌*◌, ◌++◌, ◌+◌, ◌<◌, ◌∷◌, ◌≡◌, ◌≢◌, ◌≤◌}
 use Rattle.mc_flash.specs.Usage.{HasRoom, LeaveRoom, RanOut, Seen, Spent, checkpoint_of, no_counts}
 use Rattle.mc_tree.specs.{Tree.{After, AtStart, IsMember, IsNext, IsOver, Lost, Position, landed}, facts.Order.{IsNextBeyond, NoneBeyond}}
-use Rattle.mc_walk.specs.{TreeModel.{IsAt, IsRoot, TreeModel, summary_cost}, declared.frame.Frame.{Frame}, declared.tour.Phase.{Phase}}
+use Rattle.mc_walk.specs.{TreeModel.{IsAt, IsRoot, IsTwin, TreeModel, summary_cost}, declared.frame.Frame.{Frame}, declared.tour.Phase.{Phase}}
 use Rattle.mc_walk.specs.{declared.tour.Phase.TheVariants.{Broken, Done, Fresh, Going}, declared.tour.TourError.{TourError}}
 use Rattle.mc_walk.specs.inner.Stack.{IsRoomy, Stands, most_at, path_of}
 use Rattle.mc_walk.specs.declared.tour.TourError.TheVariants as errors
@@ -46,6 +46,15 @@ module _ {N A T B : Type 0} (k : TreeModel N A T) where
     pub at_is : IsAt k (landed k.tree k.root before) f.number f.at w.seen
     pub some : f.number < k.tree.width (landed k.tree k.root before)
     pub parent_is : k.IsSummary (landed k.tree k.root before) f.parent
+
+  -- The last node before it has a further child, which is a twin of the one where it stands, both with that summary.
+  pub record IsBeforeTwin (w : Walked B) (summary : T) : Type 0 where
+    pub before : List ℕ
+    pub number : ℕ
+    pub path_is : w.path ≡ before ++ number ∷ []
+    pub more : number + 1 < k.tree.width (landed k.tree k.root before)
+    pub summary_is : k.IsSummary (k.tree.child (landed k.tree k.root before) number) summary
+    pub twin : IsTwin k (landed k.tree k.root before) number summary
 
   -- The paths that it can take.
   abbrev pub IsPath : Walked B → List ℕ → Type 0

@@ -5,9 +5,9 @@ use std::alloc::AllocError;
 /// A kind of tree over the contents of a flash: how one goes from a node to its children, and what is known of a node, its
 /// summary. That may be derived from the summary of the parent.
 pub trait FlashTree: Copy {
-    ghost use Rattle.std.specs.Prelude.{◌≡◌, ℕ, IfOk, OnOk};
+    ghost use Rattle.std.specs.Prelude.{◌≡◌, ℕ, ◌+◌, ◌<◌, true, IfOk, OnOk};
     ghost use Rattle.mc_flash.specs.Usage.{Keeps, HasRoom, Spends, Stays};
-    ghost use Rattle.mc_walk.specs.TreeModel.{TreeModel, CanReach, Reaches, HasNext, ReachesNext, IsRoot, IsChild, IsChildSummary, HasWidth, owed_there, summary_cost};
+    ghost use Rattle.mc_walk.specs.TreeModel.{TreeModel, CanReach, Reaches, HasNext, ReachesNext, IsRoot, IsChild, IsChildSummary, IsTwin, HasWidth, owed_there, summary_cost};
 
     ghost Node: { Type 0 };
 
@@ -51,6 +51,13 @@ pub trait FlashTree: Copy {
             (F.seen flash.new) }
         ensures keeps { OnOk result (Keeps (F.seen flash.old) (F.seen flash.new)) }
         ensures spends { Spends (model self).step (F.seen flash.old) result (F.seen flash.new) };
+
+    /// Whether the next child of its node is a twin of that one, with that summary.
+    fn has_twin(self, at: &Self::Child, child: &Self::Summary) -> bool
+        ensures { result ≡ true → (n : Node) (i : ℕ) → (model self).IsOn n i at.now
+            → i + 1 < (model self).tree.width n
+            → (model self).IsSummary ((model self).tree.child n i) child.now
+            → IsTwin (model self) n i child.now };
 
     /// The summary of the root at which the flash stands.
     fn root<F: Flash>(self, flash: &mut F) -> Result<Self::Summary, AllocError>

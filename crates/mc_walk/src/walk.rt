@@ -4,11 +4,11 @@ ghost use Rattle.std.specs.List.{slice_get};
 ghost use Rattle.mc_tree.specs.Tree.{labelled};
 ghost use Rattle.mc_flash.specs.Usage.{Spends, Spent};
 ghost use Rattle.mc_walk.specs.TreeModel.{summary_cost};
-ghost use Rattle.mc_walk.specs.Walks.{IsClear, IsFresh, IsOf, Begins, GoesDown, Climbs, Advances, Follows, IsThere, IsLastStep, child_cost, path_cost};
+ghost use Rattle.mc_walk.specs.Walks.{IsClear, IsFresh, IsOf, Begins, GoesDown, Climbs, Advances, Follows, IsThere, IsBeforeTwin, IsLastStep, child_cost, path_cost};
 
 use crate::FlashTree;
 use crate::child_steps::{go_to_child, parent};
-use crate::enter::{enter, next_sibling};
+use crate::enter::{enter, next_sibling, twin_of};
 use crate::frame::{Frame, leave_spent};
 use arrayvec::ArrayVec;
 use mc_flash::Flash;
@@ -194,6 +194,14 @@ impl<F: Flash, B: FlashTree> Walk<F, B> {
         Ok(true)
     }
 
+    /// The summary of the next child of the last node before it, where that surely is a twin of the one where it stands.
+    pub fn next_twin(&self) -> Option<B::Summary>
+        requires { self.now.stands ≡ true }
+        ensures { IfSome result (IsBeforeTwin (B.model self.now.flash_tree) self.now) }
+    {
+        twin_of(self.flash_tree, &self.frames, self.summary)
+    }
+
     /// Goes up to the last node that has a further child, and on to that child.
     ///
     /// # Errors
@@ -208,13 +216,14 @@ impl<F: Flash, B: FlashTree> Walk<F, B> {
         ensures spends { Spends (child_cost (B.model self.old.flash_tree) 0) self.old.seen result
             self.new.seen }
     {
+        let twin = twin_of(self.flash_tree, &self.frames, self.summary);
         self.summary = None;
         if !leave_spent(self.flash_tree, &mut self.frames) {
             return Ok(false);
         }
         // The checkpoint of the last frame stands after that of the root and those of the frames below it.
         self.flash.back_to(self.frames.len());
-        let summary = next_sibling(self.flash_tree, &mut self.flash, &mut self.frames)?;
+        let summary = next_sibling(self.flash_tree, &mut self.flash, &mut self.frames, twin)?;
         self.summary = Some(summary);
         Ok(true)
     }

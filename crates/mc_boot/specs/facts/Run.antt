@@ -1,11 +1,11 @@
 -- What follows from where a boot is on its way. Proved here, so that the crates above can cite it.
 use Rattle.std.specs.Prelude.{◌≡◌, ℕ, zero, suc, ◌+◌, ◌<◌, ◌≤◌, nat_lt, Bool, false, if◌then◌else◌, List, [], ◌∷◌, ◌++◌, length, take, drop, Option, Some, None, option_and_then, option_map, Result, refl}
-use Rattle.std.proofs.{Common.{arith, ap, ◌∙◌}, lemmas.Bool.Decides.{nat_tests}}
+use Rattle.std.proofs.{Common.{arith, ap, sym, ◌∙◌}, lemmas.Bool.Decides.{nat_tests}}
 use Rattle.std.proofs.lemmas.List.{length-take-le, length-drop, take_at, append-nil}
 use Rattle.mc_flash.specs.{Geometry.{Geometry}, Flash.{Content, apply}, declared.op.Op.{Op}, declared.flash.FlashError.{FlashError}}
 use Rattle.mc_trailer.specs.declared.tables.Rules.{Rules}
 use Rattle.mc_boot.specs.{Plan.{plan, PowerOn, power_on}, Outcome.{applied, first_then, happening, ops_of, at, is_faulted, left_by, Report, report, outcome_of}}
-use Rattle.mc_boot.specs.Boot.{Progress, begun, Steps, HasCome}
+use Rattle.mc_boot.specs.Boot.{Progress, begun, stepped, Steps, HasCome}
 use Rattle.mc_flash.specs.{Usage.{Seen}, facts.Done.{did, undefined}}
 
 first_happens : (g : Geometry) (op : Op) (ops left : List Op) (s t : Content) (k : ℕ) → ((x : Content) → applied g (take k ops) x ≡ Some t → happening g ops x ≡ take k ops ++ left)
@@ -72,6 +72,11 @@ ends : (x : PowerOn) (p : Progress) (t : Content) → HasCome x p t → p.to_com
     → (happening x.geometry (drop p.count (plan x).list) t ≡ []) × (nat_lt p.count (length (plan x).list) ≡ p.faulted)
 ends x p t come end = grind (arith, nat_tests, none_left)
 
+-- A boot that makes its next operation is on its way.
+pub come_next : (x : PowerOn) (p : Progress) (t u : Content) (op : Op) (rest : List Op) → HasCome x p t → p.to_come ≡ op ∷ rest → apply x.geometry op t ≡ Some u
+    → HasCome x (stepped p rest) u
+come_next x p t u op rest come first given = grind (arith, next_of, more_left, plus_one, applied_next, left_is, drop_next)
+
 -- What happens of the plan begins with what happened so far, and at the end that is all of it.
 pub come_prefix : (x : PowerOn) (p : Progress) (t : Content) → HasCome x p t
     → ops_of x ≡ take p.count (plan x).list ++ happening x.geometry (drop p.count (plan x).list) t
@@ -107,6 +112,19 @@ come_left x p t come end = ap (at x) (come_ops x p t come end) ∙ come_at x p t
 pub come_outcome : (x : PowerOn) (p : Progress) (t : Content) → HasCome x p t → p.to_come ≡ [] → outcome_of x ≡ Some (report p.rules x.geometry p.kind p.count p.faulted t)
 unfolding outcome_of
 come_outcome from p t come end = grind (arith, come_left, come_ops, come_faulted)
+
+-- Where it makes one more, that can be applied.
+pub next_happens : (x : PowerOn) (p : Progress) (t : Content) (op : Op) (rest : List Op) → HasCome x p t → p.to_come ≡ op ∷ rest → p.count < length (ops_of x)
+    → (u : Content) × (apply x.geometry op t ≡ Some u)
+next_happens x p t op rest come first early = by (apply x.geometry op t) refl
+  where
+    by : (o : Option Content) → apply x.geometry op t ≡ o → (u : Content) × (apply x.geometry op t ≡ Some u)
+    by (Some u) is = (u, is)
+    by None is =
+        let left = next_of p.faulted rest (drop p.count (plan x).list) op (sym first ∙ come.rest) in
+        let none : happening x.geometry (drop p.count (plan x).list) t ≡ [] = ap (λ (l : List Op). happening x.geometry l t) left.1 ∙ none_first x.geometry op rest t is in
+        let all = ap (λ (l : List Op). length l) (come_prefix x p t come ∙ ap (λ (l : List Op). take p.count (plan x).list ++ l) none ∙ append-nil (take p.count (plan x).list)) in
+        absurd (omega (arith, early, all, come_count x p t come))
 
 -- ---- what a boot leaves is always defined
 

@@ -1,6 +1,6 @@
 -- The sections of a course: how many operations each has, and which.
-use Rattle.std.specs.Prelude.{Bool, List, [], drop, flat_map, if◌then◌else◌, map, max, not, ℕ, ◌*◌, ◌+◌, ◌-◌, ◌/◌, ◌∷◌, ◌≡◌}
-use Rattle.mc_boot.specs.{Plan.{is_test, number_of, steps, trailer_erases, transfers, write, write_count}, declared.section.Counted.{Counted}}
+use Rattle.std.specs.Prelude.{Bool, List, [], drop, false, flat_map, if◌then◌else◌, map, max, not, ℕ, ◌*◌, ◌++◌, ◌+◌, ◌-◌, ◌/◌, ◌∷◌, ◌≡◌}
+use Rattle.mc_boot.specs.{Plan.{is_revert, is_test, number_of, opening_writes, preparation_writes, steps, trailer_erases, transfers, write, write_count}, declared.course.Opening.{Opening}, declared.course.Opening.TheVariants.{New, Resumed}, declared.section.Counted.{Counted}}
 use Rattle.mc_boot.specs.{declared.section.Section.{Section}, declared.section.Section.TheVariants.{Nothing, Erases, Flag, Size, Magic, Transfers}}
 use Rattle.mc_flash.specs.{Geometry.{Geometry, trailer_sectors}, declared.flash.Grain.{Grain}, declared.op.Op.{Op}, declared.op.Op.TheVariants.{Program}}
 use Rattle.mc_flash.specs.declared.op.Slot.TheVariants.{Primary, Secondary}
@@ -55,3 +55,19 @@ abbrev pub resumed_sections : ℕ → Bool → Bool → List Section
 resumed_sections first erases image_ok =
     when erases (Erases Secondary) ∷ Transfers first ∷ when image_ok (Flag Primary field.ImageOk 1)
     ∷ Flag Primary field.CopyDone 1 ∷ []
+
+-- A course in three parts: what stands before its transfers, the transfers from the first that is left on, and the finish.
+
+abbrev pub head_list : Grain → Geometry → Opening → List Op
+head_list c g (New kind size) =
+    (if is_revert kind then trailer_erases g Secondary ++ preparation_writes c g size else [])
+    ++ (trailer_erases g Primary ++ (opening_writes c g kind size ++ trailer_erases g Secondary))
+head_list c g (Resumed first erases image_ok) = if erases then trailer_erases g Secondary else []
+
+abbrev pub first_of : Opening → ℕ
+first_of (New kind size) = 0
+first_of (Resumed first erases image_ok) = first
+
+abbrev pub is_confirmed : Opening → Bool
+is_confirmed (New kind size) = false
+is_confirmed (Resumed first erases image_ok) = image_ok

@@ -18,6 +18,10 @@ report_from s = (outcome_defined s).0
 abbrev pub end_from : Bool → RoundNode PowerOn → Report
 end_from confirms p = end_by (report_from (began_at p)) (report_from (later_from confirms p))
 
+pub same_end : (x : PowerOn) (confirms : Bool) (path other : List ℕ) → landed (rounds confirms) (round_one x) path ≡ landed (rounds confirms) (round_one x) other
+    → end_from confirms (landed (rounds confirms) (round_one x) path) ≡ end_from confirms (landed (rounds confirms) (round_one x) other)
+same_end x confirms path other same = ap (end_from confirms) same
+
 -- ---- a campaign has one row
 
 module _ (x : PowerOn) (cuts : List ℕ) (o p : Report) (y z : Content) (a : IsReplayed x cuts o y) (b : IsReplayed x cuts p z) where

@@ -7,9 +7,7 @@ use Rattle.mc_boot.specs.declared.shared_tail.SharedTail.{SharedTail}
 use Rattle.mc_explore.specs.{declared.one_round.OneRound.{OneRound}, declared.one_round.Summary.{Summary}}
 use Rattle.mc_flash.specs.Flash.{Content, IsSized}
 use Rattle.mc_flash.specs.Usage.{Allows, Counts, Keeps, LeaveRoom, Seen, most_operations, most_saved, no_counts, plus}
-use Rattle.mc_image.specs.Image.{IsBytes}
 use Rattle.mc_start.specs.Start as starts
-use Rattle.mc_trailer.specs.declared.tables.Rules.{Rules}
 use Rattle.mc_tree.specs.Tree.{Tree}
 use Rattle.mc_walk.specs.{TreeModel.{IsAt, TreeModel}, Walks.{Walked}}
 
@@ -52,26 +50,19 @@ pub record HasMade (x : PowerOn) (n : ℕ) (b : Boot) : Type 0 where
   pub come : HasCome x (progress b) (at_cut x n)
   pub count_is : b.done ≡ n
 
--- That is the summary of s, a content of the slots' lengths with bytes in the secondary: the boot from there, with few
--- operations, and its outcome.
+-- That is the summary of s, a content of the slots' lengths: the boot from there, with few operations, and its outcome.
 pub record IsSummary (x : PowerOn) (summary : Summary) : Type 0 where
   pub boot_is : progress summary.boot ≡ begun x.rules (plan x)
   pub list_is : all_of summary.boot ≡ (plan x).list
   pub layout_is : IsBootOf x.geometry summary.boot
   pub at_most : IsBounded x.geometry (plan x).list (most_operations x.rules.grain x.geometry) (most_saved x.geometry)
   pub sized : IsSized x.geometry x.content
-  pub bytes : IsBytes x.content.secondary
   pub outcome_is : outcome_of x ≡ Some (shown summary.outcome)
 
--- A boot at power-on from where a flash stands, with bytes in the secondary.
-pub record IsBegun (r : Rules) (f : Seen) (b : Boot) : Type 0 where
-  pub cold : IsCold r f b
-  pub bytes : IsBytes f.content.secondary
-
--- Such a boot, by the rules of that start and of a flash of its layout.
+-- A boot at power-on from where a flash stands, by the rules of that start and of a flash of its layout.
 pub record BeginsOn (start : PowerOn) (f : Seen) (b : Boot) : Type 0 where
   pub layout_is : f.geometry ≡ start.geometry
-  pub begun : IsBegun start.rules f b
+  pub begun : IsCold start.rules f b
 
 -- The boot from x ran to its end: its summary is that, and it left this.
 pub record HasRun (x : PowerOn) (summary : Summary) (left : Content) : Type 0 where

@@ -5,7 +5,7 @@ use Rattle.mc_boot.specs.declared.shared_tail.SharedTail.{SharedTail}
 use Rattle.mc_explore.specs.{Right.{judged}, declared.census.CensusOf.{CensusOf}, declared.expectation.Expectation.{Expectation}, declared.table.Below.{Below}}
 use Rattle.mc_explore.specs.{declared.table.Below.TheVariants.{Apart, Joined}, declared.table.Level.{Level}, declared.table.Run.{Run}}
 use Rattle.mc_explore.specs.inner.Totals.{Totals, merged, cut_off, no_totals, report_totals, totals}
-use Rattle.mc_tree.specs.{Tree.{Allowed, Beyond, Tree}, facts.Order.{HasPassed}, inner.Weights.{IsShared, from, path_tree, shared_below, weight}}
+use Rattle.mc_tree.specs.{Tree.{Allowed, Beyond, Tree}, facts.Order.{HasPassed}, inner.Weights.{IsShared, WeighAlike, from, path_tree, shared_below, weight}}
 use Rattle.mc_walk.specs.{TreeModel.{TreeModel}, Walks.{IsPath, IsSame, Walked}}
 
 -- The censuses of the children of one node.
@@ -156,3 +156,9 @@ abbrev pub IsTailHere : {N A T B : Type 0} → (B → TreeModel N A T) → (B �
 IsTailHere model report_of walk x =
     (e : Expectation) (l : List ℕ) (number : ℕ) → walk.path ≡ l ++ number ∷ []
     → IsTailOf (paths_of (model walk.flash_tree)) (report_of walk.flash_tree) e l number x
+
+-- The next child of the node before has the totals of the one at which a walk stands.
+abbrev pub GoesOnAlike : {N A T B : Type 0} → (B → TreeModel N A T) → (B → List ℕ → Report) → Walked B → Type 0
+GoesOnAlike model report_of walk =
+    (e : Expectation) (l : List ℕ) (number : ℕ) → walk.path ≡ l ++ number ∷ []
+    → WeighAlike totals (paths_of (model walk.flash_tree)) (own_totals (paths_of (model walk.flash_tree)) (report_of walk.flash_tree) e) (l ++ (number + 1) ∷ []) (l ++ number ∷ [])

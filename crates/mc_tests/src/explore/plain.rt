@@ -39,6 +39,10 @@ impl FlashTree for Plain<'_> {
         self.boots.width(summary)
     }
 
+    fn has_twin(self, _at: &Boot, _child: &Summary) -> bool {
+        false
+    }
+
     fn first_child<F: Flash>(self, flash: &mut F, summary: &Summary) -> Result<Boot, AllocError> {
         self.boots.first_child(flash, summary)
     }

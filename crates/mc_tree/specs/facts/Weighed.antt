@@ -2,7 +2,7 @@
 use Rattle.std.specs.Prelude.{◌≡◌, ℕ, zero, suc, ◌+◌, ◌-◌, ◌<◌, ◌≤◌, List, [], ◌∷◌, ◌++◌, map, refl}
 use Rattle.std.proofs.{Common.{arith, sym, ap, ◌∙◌}, lemmas.List.{map-append}}
 use Rattle.mc_tree.specs.{Tree.{Tree, landed}, facts.Order.{landed-push}}
-use Rattle.mc_tree.specs.{inner.Weights.{Weighing, IsWeighing, IsShared, from, path_tree, shared_below, total, weight}, facts.Existence.{all_from, beginning}}
+use Rattle.mc_tree.specs.{inner.Weights.{AreTwins, Weighing, IsWeighing, IsShared, from, path_tree, shared_below, total, weight}, facts.Existence.{all_from, beginning}}
 
 module _ {M : Type 0} (w : Weighing M) (is : IsWeighing w) where
   total_append : {R : Type 0} (one : R → M) (xs ys : List R) → total w one (xs ++ ys) ≡ w.merged (total w one xs) (total w one ys)
@@ -135,3 +135,32 @@ module _ {M : Type 0} (w : Weighing M) (is : IsWeighing w) where
           early = λ i lt k. below k i ∙ is.early i lt k ∙ sym (child_weighs k l (index i));
           late = λ i le lt k. below k i ∙ is.late i le (omega (arith, lt, ap t.width here)) k ∙ sym (child_weighs k l (j + i));
         }
+
+  -- Paths to the same node weigh the same, and so do paths to twins, where they do by themselves.
+  module _ {N : Type 0} (t : Tree N) (root : N) (own : List ℕ → M) (same_own : (l m : List ℕ) → landed t root l ≡ landed t root m → own l ≡ own m) where
+    abbrev paths : Tree (List ℕ)
+    paths = path_tree t root
+
+    children_alike : (k : ℕ) (l m : List ℕ) → own l ≡ own m → t.width (landed t root l) ≡ t.width (landed t root m)
+        → ((i : ℕ) → weight w paths own k (l ++ i ∷ []) ≡ weight w paths own k (m ++ i ∷ [])) → weight w paths own (suc k) l ≡ weight w paths own (suc k) m
+    children_alike k l m here width below =
+        let width_of : List ℕ → ℕ = λ x. t.width (landed t root x) in
+        ap (λ a. w.merged a (from w (λ i. weight w paths own k (l ++ i ∷ [])) (width_of l) 0)) here
+        ∙ ap (w.merged (own m)) (from_alike (λ i. weight w paths own k (l ++ i ∷ [])) (λ i. weight w paths own k (m ++ i ∷ [])) (width_of l) 0 (λ i le lt. below i))
+        ∙ ap (λ n. w.merged (own m) (from w (λ i. weight w paths own k (m ++ i ∷ [])) n 0)) width
+
+    same_weigh : (k : ℕ) (l m : List ℕ) → landed t root l ≡ landed t root m → weight w paths own k l ≡ weight w paths own k m
+    same_weigh zero l m same = same_own l m same
+    same_weigh (suc k) l m same =
+        children_alike k l m (same_own l m same) (ap t.width same)
+        (λ i. same_weigh k (l ++ i ∷ []) (m ++ i ∷ []) (landed-push t root l i ∙ ap (λ n. t.child n i) same ∙ sym (landed-push t root m i)))
+
+    pub twins_weigh : (l m : List ℕ) → own l ≡ own m → AreTwins t (landed t root l) (landed t root m) → (k : ℕ) → weight w paths own k l ≡ weight w paths own k m
+    twins_weigh l m same twins zero = same
+    twins_weigh l m same twins (suc k) = children_alike k l m same twins.width (below (twins_weigh l m same twins k))
+      where
+        below : weight w paths own k l ≡ weight w paths own k m → (i : ℕ) → weight w paths own k (l ++ i ∷ []) ≡ weight w paths own k (m ++ i ∷ [])
+        below before zero =
+            same_weigh k (l ++ 0 ∷ []) l (landed-push t root l 0 ∙ twins.one) ∙ before
+            ∙ sym (same_weigh k (m ++ 0 ∷ []) m (landed-push t root m 0 ∙ twins.other))
+        below before (suc i) = same_weigh k (l ++ suc i ∷ []) (m ++ suc i ∷ []) (landed-push t root l (suc i) ∙ twins.later i ∙ sym (landed-push t root m (suc i)))

@@ -59,3 +59,10 @@ module _ {M N : Type 0} (w : Weighing M) (t : Tree N) (own : N → M) where
     pub within : (i : ℕ) → i < m → index i < t.width p
     pub early : (i : ℕ) → i < m → WeighAlike (t.child u i) (t.child p (index i))
     pub late : (i : ℕ) → m ≤ i → i < t.width u → WeighAlike (t.child u i) (t.child p (j + i))
+
+-- Two nodes with as many children, each of them its own first child, and their other children are the same.
+pub record AreTwins {N : Type 0} (t : Tree N) (x y : N) : Type 0 where
+  pub width : t.width x ≡ t.width y
+  pub one : t.child x 0 ≡ x
+  pub other : t.child y 0 ≡ y
+  pub later : (i : ℕ) → t.child x (suc i) ≡ t.child y (suc i)

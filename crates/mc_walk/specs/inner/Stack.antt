@@ -1,8 +1,8 @@
 -- The frames of a walk.
-use Rattle.std.specs.Prelude.{Bool, List, [], false, length, map, true, ℕ, ◌++◌, ◌+◌, ◌<◌, ◌^◌, ◌∷◌, ◌≡◌, ◌≤◌}
+use Rattle.std.specs.Prelude.{Bool, IfSome, List, Option, Some, [], false, length, map, true, ℕ, ◌++◌, ◌+◌, ◌<◌, ◌^◌, ◌∷◌, ◌≡◌, ◌≤◌}
 use Rattle.mc_flash.specs.{Usage.{Checkpoint, Counts, HasRoom, LeaveRoom, Seen, checkpoint_of, marked, plus, times}}
 use Rattle.mc_tree.specs.Tree.{landed}
-use Rattle.mc_walk.specs.{TreeModel.{HasNext, TreeModel, owed_there}, declared.frame.Frame.{Frame}}
+use Rattle.mc_walk.specs.{TreeModel.{HasNext, IsTwin, TreeModel, owed_there}, declared.frame.Frame.{Frame}}
 
 -- The path that the frames stand for.
 abbrev pub path_of : {A T : Type 0} → List (Frame A T) → List ℕ
@@ -125,3 +125,17 @@ module _ {N A T : Type 0} (k : TreeModel N A T) where
     pub bound : ℕ
     pub at_most : length before < bound
     pub roomy : IsRoomy bound seen
+
+  -- The node before the last frame has a further child, which is a twin of the one where a walk stands, with that summary.
+  pub record IsTwinOn (fs : List (Frame A T)) (stood : Option T) (summary : T) : Type 0 where
+    pub stood_is : stood ≡ Some summary
+    pub before : List (Frame A T)
+    pub frame : Frame A T
+    pub frames_are : fs ≡ before ++ frame ∷ []
+    pub open_is : IsOpen frame
+    pub twin : (n : N) (i : ℕ) → k.IsOn n i frame.at → i + 1 < k.tree.width n → k.IsSummary (k.tree.child n i) summary → IsTwin k n i summary
+
+  -- That is the summary of the next child of the node before the last frame, if it is known.
+  abbrev pub IsKnown : List (Frame A T) → Option T → Type 0
+  IsKnown fs known =
+      (before : List (Frame A T)) (f : Frame A T) → fs ≡ before ++ f ∷ [] → IfSome known (k.IsSummary (k.tree.child (node_of before) (f.number + 1)))

@@ -1,7 +1,7 @@
 use Rattle.std.proofs.Common.{sym, subst}
 use Rattle.mc_flash.specs.Usage.{HasRoom}
 use Rattle.mc_walk.specs.TreeModel.{owed_there}
-use Rattle.mc_walk.proofs.{Stacks.{child_here, entered_summary}, Steps.{spends_marked}}
+use Rattle.mc_walk.proofs.{Stacks.{child_here, entered_summary, given_there}, Steps.{spends_marked}}
 use Rattle.mc_walk.proofs.enter.enter.Goals as goal
 
 pub child-requires : goal.child-requires
@@ -15,7 +15,8 @@ returns-clause-stands g c =
     let seen = g.F.Flash.seen c.args.flash.now in
     entered_summary (g.B.FlashTree.model c.args.flash_tree) seen (g.F.Flash.seen c.mark.new.self) (g.F.Flash.seen c.child.new.flash) c.args.frames.now.items c.push.new.self.items
     c.args.frame
-    c.child.result c.requires.comes c.in_ok-mark.ensures.1 c.in_ok-push.ensures.items c.child.ensures.gives c.child.ensures.stays
+    c.child.result c.requires.comes c.in_ok-mark.ensures.1 c.in_ok-push.ensures.items
+    (given_there (g.B.FlashTree.model c.args.flash_tree) (g.F.Flash.seen c.mark.new.self) c.args.frame.at c.args.frame.parent c.child.result _ _ c.child.ensures.gives) c.child.ensures.stays
 
 pub returns-clause-spends : goal.returns-clause-spends
 returns-clause-spends g c = spends_marked _ _ _ _ c.child.result c.in_ok-mark.ensures.1 c.child.ensures.spends

@@ -1,4 +1,5 @@
-use Rattle.std.proofs.Common.{◌≡◌, ℕ, ◌+◌, ◌-◌, ◌<◌, ◌≤◌, List, [], ◌∷◌, ◌++◌, length, length-append, Result, Ok, Err, refl, sym, ap, subst, ◌∙◌, arith}
+use Rattle.mc_walk.specs.inner.Stack.{node_of}
+use Rattle.std.proofs.Common.{IfSome, ◌≡◌, ℕ, ◌+◌, ◌-◌, ◌<◌, ◌≤◌, List, [], ◌∷◌, ◌++◌, length, length-append, Result, Ok, Err, refl, sym, ap, subst, ◌∙◌, arith}
 use Rattle.std.proofs.lemmas.Result.{err_from_is_err_and}
 use Rattle.mc_flash.specs.{Usage.{Seen, marked, HasRoom, Spent, Spends}, facts.Spends.{mark_spends, ran_out_later, spent_both, spent_marked, spent_more}}
 use Rattle.mc_walk.specs.TreeModel.{HasNext, owed_there}
@@ -26,60 +27,62 @@ both a b x y z w r s m =
     after a b x z w r (subst (Spent a x) (sym m) (spent_more (a + 0) a x (marked y) (omega arith) (spent_both a 0 x y (marked y) s (spent_marked y))))
 
 pub overflow_sub-end : goal.overflow_sub-end
-overflow_sub-end g c = within _ _ _ _ (c.len-end.ensures ∙ c.args.frames.now.ok.0) c.requires.frames_are
+overflow_sub-end g c = within _ _ _ _ (c.len-end.ensures ∙ c.args.frames.now.ok.0) c.requires.goes.frames_are
 
 pub index_mut-last-requires : goal.index_mut-last-requires
-index_mut-last-requires g c = subst (λ n. c.len-end.result - 1 < n) c.len-end.ensures (below _ (within _ _ _ _ (c.len-end.ensures ∙ c.args.frames.now.ok.0) c.requires.frames_are))
+index_mut-last-requires g c = subst (λ n. c.len-end.result - 1 < n) c.len-end.ensures (below _ (within _ _ _ _ (c.len-end.ensures ∙ c.args.frames.now.ok.0) c.requires.goes.frames_are))
 
 pub next-requires : goal.next-requires
 next-requires g c =
     let k = g.B.FlashTree.model c.args.flash_tree in
-    let is = last_is k _ _ c.requires _ _ (end _ _ (c.len-end.ensures ∙ c.args.frames.now.ok.0)) c.index_mut-last.ensures.value in
-    subst (λ f. HasNext k f.at (g.F.Flash.seen c.args.flash.now)) (sym is) c.requires.has_next
+    let is = last_is k _ _ c.requires.goes _ _ (end _ _ (c.len-end.ensures ∙ c.args.frames.now.ok.0)) c.index_mut-last.ensures.value in
+    subst (λ f. HasNext k f.at (g.F.Flash.seen c.args.flash.now)) (sym is) c.requires.goes.has_next
 
 pub overflow_add-last : goal.overflow_add-last
 overflow_add-last g c =
-    let is = last_is (g.B.FlashTree.model c.args.flash_tree) _ _ c.requires _ _ (end _ _ (c.len-end.ensures ∙ c.args.frames.now.ok.0)) c.index_mut-last.ensures.value in
+    let is = last_is (g.B.FlashTree.model c.args.flash_tree) _ _ c.requires.goes _ _ (end _ _ (c.len-end.ensures ∙ c.args.frames.now.ok.0)) c.index_mut-last.ensures.value in
     rw is (grind arith)
 
 pub returns-in_err-mark-clause-spends : goal.returns-in_err-mark-clause-spends
 returns-in_err-mark-clause-spends g c =
     let k = g.B.FlashTree.model c.args.flash_tree in
     let h = c.in_ok-next.ensures in
-    let is = last_is k _ _ c.requires _ _ (end _ _ (c.len-end.ensures ∙ c.args.frames.now.ok.0)) c.index_mut-last.ensures.value in
+    let is = last_is k _ _ c.requires.goes _ _ (end _ _ (c.len-end.ensures ∙ c.args.frames.now.ok.0)) c.index_mut-last.ensures.value in
     let p = err_from_is_err_and c.from_residual-in_err-mark.result c.from_residual-in_err-mark.ensures.1 in
-    let room = mark_on k _ _ _ c.requires c.index_mut-last.result.now is c.next.new.at h.keeps h.goes_on h.spends in
+    let room = mark_on k _ _ _ c.requires.goes c.index_mut-last.result.now is c.next.new.at h.keeps h.goes_on h.spends in
     rw p.1 (ran_out_later _ _ _ _ h.spends (rw c.in_err-mark.was at (mark_spends _ _ c.mark.result room c.mark.ensures)))
 
-pub child-requires-clause-child : goal.child-requires-clause-child
-child-requires-clause-child g c =
+pub summary_of-requires-clause-child : goal.summary_of-requires-clause-child
+summary_of-requires-clause-child g c =
     let k = g.B.FlashTree.model c.args.flash_tree in
     let h = c.in_ok-next.ensures in
-    let is = last_is k _ _ c.requires _ _ (end _ _ (c.len-end.ensures ∙ c.args.frames.now.ok.0)) c.index_mut-last.ensures.value in
-    child_here k _ _ _ _ (comes_on k _ _ _ c.requires c.index_mut-last.result.now is c.next.new.at h.keeps h.goes_on h.spends) c.in_ok-mark.ensures.1
+    let is = last_is k _ _ c.requires.goes _ _ (end _ _ (c.len-end.ensures ∙ c.args.frames.now.ok.0)) c.index_mut-last.ensures.value in
+    child_here k _ _ _ _ (comes_on k _ _ _ c.requires.goes c.index_mut-last.result.now is c.next.new.at h.keeps h.goes_on h.spends) c.in_ok-mark.ensures.1
 
-pub child-requires-clause-room : goal.child-requires-clause-room
-child-requires-clause-room g c =
+pub summary_of-requires-clause-room : goal.summary_of-requires-clause-room
+summary_of-requires-clause-room g c =
     let k = g.B.FlashTree.model c.args.flash_tree in
     let h = c.in_ok-next.ensures in
-    let is = last_is k _ _ c.requires _ _ (end _ _ (c.len-end.ensures ∙ c.args.frames.now.ok.0)) c.index_mut-last.ensures.value in
-    subst (HasRoom (owed_there k c.next.new.at)) (sym c.in_ok-mark.ensures.1) (room_on k _ _ _ c.requires c.index_mut-last.result.now is c.next.new.at h.keeps h.goes_on h.spends)
+    let is = last_is k _ _ c.requires.goes _ _ (end _ _ (c.len-end.ensures ∙ c.args.frames.now.ok.0)) c.index_mut-last.ensures.value in
+    subst (HasRoom (owed_there k c.next.new.at)) (sym c.in_ok-mark.ensures.1) (room_on k _ _ _ c.requires.goes c.index_mut-last.result.now is c.next.new.at h.keeps h.goes_on h.spends)
 
 pub returns-clause-stands : goal.returns-clause-stands
 returns-clause-stands g c =
     let k = g.B.FlashTree.model c.args.flash_tree in
     let h = c.in_ok-next.ensures in
     let index_is = end _ _ (c.len-end.ensures ∙ c.args.frames.now.ok.0) in
-    let is = last_is k _ _ c.requires _ _ index_is c.index_mut-last.ensures.value in
-    let f = next_on k _ _ _ c.requires c.index_mut-last.result.now is c.next.new.at h.keeps h.goes_on h.spends in
-    entered_summary k _ _ _ c.requires.before _ f c.child.result
-    (comes_on k _ _ _ c.requires c.index_mut-last.result.now is c.next.new.at h.keeps h.goes_on h.spends) c.in_ok-mark.ensures.1
-    (frames_on k _ _ c.requires f (c.len-end.result - 1) index_is) c.child.ensures.gives c.child.ensures.stays
+    let is = last_is k _ _ c.requires.goes _ _ index_is c.index_mut-last.ensures.value in
+    let f = next_on k _ _ _ c.requires.goes c.index_mut-last.result.now is c.next.new.at h.keeps h.goes_on h.spends in
+    entered_summary k _ _ _ c.requires.goes.before _ f c.summary_of.result
+    (comes_on k _ _ _ c.requires.goes c.index_mut-last.result.now is c.next.new.at h.keeps h.goes_on h.spends) c.in_ok-mark.ensures.1
+    (frames_on k _ _ c.requires.goes f (c.len-end.result - 1) index_is)
+    (λ here some parent. c.summary_of.ensures.gives _ _ here some parent (subst (λ z. IfSome c.args.twin (k.IsSummary (k.tree.child (node_of k c.requires.goes.before) (z.number + 1)))) (sym is)
+    (c.requires.known c.requires.goes.before c.requires.goes.frame c.requires.goes.frames_are))) c.summary_of.ensures.stays
 
 pub returns-clause-frames : goal.returns-clause-frames
 returns-clause-frames g c =
     let index_is = end _ _ (c.len-end.ensures ∙ c.args.frames.now.ok.0) in
-    ok_any c.child.result (one_on (g.B.FlashTree.model c.args.flash_tree) _ c.index_mut-last.result.now _ (c.len-end.result - 1) index_is c.index_mut-last.ensures.value refl)
+    ok_any c.summary_of.result (one_on (g.B.FlashTree.model c.args.flash_tree) _ c.index_mut-last.result.now _ (c.len-end.result - 1) index_is c.index_mut-last.ensures.value refl)
 
 pub returns-clause-spends : goal.returns-clause-spends
-returns-clause-spends g c = both _ _ _ _ _ _ c.child.result c.in_ok-next.ensures.spends c.in_ok-mark.ensures.1 c.child.ensures.spends
+returns-clause-spends g c = both _ _ _ _ _ _ c.summary_of.result c.in_ok-next.ensures.spends c.in_ok-mark.ensures.1 c.summary_of.ensures.spends

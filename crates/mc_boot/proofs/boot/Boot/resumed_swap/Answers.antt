@@ -2,14 +2,14 @@ use Rattle.std.proofs.Common.{arith}
 use Rattle.mc_boot.proofs.{Courses.{greatest_pieces}, Plans.{none_of, resumed_begun}}
 use Rattle.mc_boot.proofs.boot.Boot.resumed_swap.Goals as goal
 
-pub invariant_of-result : goal.invariant_of-result
-invariant_of-result g c = grind (arith, greatest_pieces)
+pub new-requires : goal.new-requires
+new-requires g c = grind (arith, greatest_pieces)
 
 pub returns-clause-progress : goal.returns-clause-progress
 returns-clause-progress g c = grind (arith, resumed_begun, none_of)
 
 pub returns-clause-layout : goal.returns-clause-layout
-returns-clause-layout g c = rw c.layout-layout.ensures at c.in_pieces.ensures
+returns-clause-layout g c = grind arith
 
 pub returns-then-sectors-eq0-clause-progress : goal.returns-then-sectors-eq0-clause-progress
 returns-then-sectors-eq0-clause-progress g c = rw c.if-sectors-eq0.true c.idle.ensures.progress

@@ -1,34 +1,28 @@
-use Rattle.std.proofs.Common.{arith, length-append, refl, sym, ◌∙◌}
-use Rattle.mc_boot.proofs.Sections.{few_list, other_is, resumed_is, revert_is}
+use Rattle.std.proofs.Common.{arith, refl}
+use Rattle.mc_boot.proofs.{Courses.{few_transfers}, Sections.{few_list, length-parts}}
+use Rattle.mc_boot.specs.{inner.Section.{first_of}}
 use Rattle.mc_boot.proofs.course.Course.len.Goals as goal
 
-pub returns-then-is_revert-clause-len : goal.returns-then-is_revert-clause-len
-returns-then-is_revert-clause-len c =
+pub overflow_mul-result : goal.overflow_mul-result
+overflow_mul-result c =
     let s = c.args.self.now in
-    rw (c.in-New.is, c.len_of.ensures, c.len_of-swap.ensures, c.preparation.ensures, c.swap.ensures) (
-    rw (revert_is s.grain s.layout s.sectors c.in-New.kind c.in-New.size (sym c.is_revert.ensures ∙ c.if-is_revert.true)) (sym (length-append _ _))
-    )
+    rw (c.transfers.ensures, s.width_is) (omega (arith, few_transfers s.layout s.sectors (first_of s.opening) c.unit-unit.ensures.valid s.fits))
 
-pub returns-else-is_revert-clause-len : goal.returns-else-is_revert-clause-len
-returns-else-is_revert-clause-len c =
+pub returns-clause-len : goal.returns-clause-len
+returns-clause-len c =
     let s = c.args.self.now in
-    rw (c.in-New.is, c.len_of-swap.ensures, c.swap.ensures) (rw (other_is s.grain s.layout s.sectors c.in-New.kind c.in-New.size (sym c.is_revert.ensures ∙ c.if-is_revert.false)) refl)
+    length-parts s.grain s.layout s.sectors s.opening _ (rw (c.transfers.ensures, s.width_is, s.head_is, c.finish_len.ensures) refl)
 
-pub returns-then-is_revert-clause-at_most : goal.returns-then-is_revert-clause-at_most
-returns-then-is_revert-clause-at_most c =
+pub returns-clause-at_most : goal.returns-clause-at_most
+returns-clause-at_most c =
     let s = c.args.self.now in
-    few_list s.grain s.layout s.sectors c.unit-unit.ensures.valid s.fits s.opening _ (returns-then-is_revert-clause-len c)
+    few_list s.grain s.layout s.sectors c.unit-unit.ensures.valid s.fits s.opening _ (returns-clause-len c)
 
 pub overflow_add-result : goal.overflow_add-result
-overflow_add-result c = omega (arith, returns-then-is_revert-clause-at_most c)
-
-pub returns-else-is_revert-clause-at_most : goal.returns-else-is_revert-clause-at_most
-returns-else-is_revert-clause-at_most c =
+overflow_add-result c =
     let s = c.args.self.now in
-    few_list s.grain s.layout s.sectors c.unit-unit.ensures.valid s.fits s.opening _ (returns-else-is_revert-clause-len c)
+    rw (c.transfers.ensures, s.width_is, s.head_is)
+    (omega (arith, few_list s.grain s.layout s.sectors c.unit-unit.ensures.valid s.fits s.opening _ (length-parts s.grain s.layout s.sectors s.opening _ refl)))
 
-pub returns-in-Resumed-clause-at_most : goal.returns-in-Resumed-clause-at_most
-returns-in-Resumed-clause-at_most c =
-    let s = c.args.self.now in
-    few_list s.grain s.layout s.sectors c.unit-unit.ensures.valid s.fits s.opening _
-    (rw (c.in-Resumed.is, c.len_of-in-Resumed.ensures, c.resumed.ensures) (rw (resumed_is s.grain s.layout s.sectors c.in-Resumed.first c.in-Resumed.erases c.in-Resumed.image_ok) refl))
+pub overflow_add-result-2 : goal.overflow_add-result-2
+overflow_add-result-2 c = omega (arith, returns-clause-at_most c)

@@ -1,7 +1,7 @@
 use Rattle.std.proofs.{Common.{◌≡◌, ◌+◌, ◌*◌, true, false, Some, None, length, refl, subst, ap, ◌∙◌, arith}, lemmas.Result.{err_from_is_err_and}}
 use Rattle.mc_flash.specs.{Usage.{went_back, RanOut, Seen, Spent}, facts.Spends.{ran_out_later, spent_back}}
 use Rattle.mc_walk.specs.{inner.Stack.{LeavesOpen}, Walks.{Walked, walked, Climbs, child_cost}}
-use Rattle.mc_walk.proofs.{Steps.{Arrives, Leaves, standing, mark_there, can_go_on, arrives_on, climbed, none_on}, walk.Walk.climb.Given.{Over}}
+use Rattle.mc_walk.proofs.{Steps.{Arrives, Leaves, known_next, standing, mark_there, can_go_on, arrives_on, climbed, none_on}, walk.Walk.climb.Given.{Over}}
 use Rattle.mc_walk.proofs.walk.Walk.climb.Goals as goal
 use Rattle.mc_walk.proofs.walk.Walk.climb.Goals.{After-len, In_ok-summary}
 
@@ -43,9 +43,16 @@ back_to-requires g c =
     let w = c.self.inside in
     omega (arith, mark_there (g.B.FlashTree.model w.flash_tree) w.bound (g.F.Flash.seen w.flash) _ _ _ (leaves g a) refl, index_is g a)
 
-pub next_sibling-requires : goal.next_sibling-requires
-next_sibling-requires g c =
-    let a = (goal.at.next_sibling-requires g c).After-len in
+pub next_sibling-requires-clause-known : goal.next_sibling-requires-clause-known
+next_sibling-requires-clause-known g c =
+    let w = c.self.inside in
+    let a = (goal.at.next_sibling-requires-clause-known g c).After-len in
+    known_next (g.B.FlashTree.model w.flash_tree) w.bound (g.F.Flash.seen w.flash) w.frames.items _ w.summary c.twin_of-twin.result c.self.invariant.going (leaves g a).is
+    (rw c.deref.ensures.value at c.twin_of-twin.ensures)
+
+pub next_sibling-requires-clause-goes : goal.next_sibling-requires-clause-goes
+next_sibling-requires-clause-goes g c =
+    let a = (goal.at.next_sibling-requires-clause-goes g c).After-len in
     let w = c.self.inside in
     can_go_on (g.B.FlashTree.model w.flash_tree) w.bound (g.F.Flash.seen w.flash) _ _ _ (leaves g a) (c.back_to.ensures ∙ ap (λ n. went_back n (g.F.Flash.seen w.flash)) (index_is g a))
 

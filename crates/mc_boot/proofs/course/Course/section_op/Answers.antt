@@ -1,6 +1,6 @@
 use Rattle.std.proofs.Common.{arith, sym, ◌-◌, ◌∙◌}
 use Rattle.mc_boot.proofs.{Courses.{get_beyond, get_within}, Sections.{revert_is}}
-use Rattle.mc_boot.proofs.course.Course.op.Goals as goal
+use Rattle.mc_boot.proofs.course.Course.section_op.Goals as goal
 
 pub returns-then-index-len-clause-at : goal.returns-then-index-len-clause-at
 returns-then-index-len-clause-at c =

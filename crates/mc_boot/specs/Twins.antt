@@ -1,0 +1,18 @@
+-- Cuts one operation apart after which the same boot begins.
+use Rattle.std.specs.Prelude.{Some, suc, ℕ, ◌+◌, ◌≡◌}
+use Rattle.mc_boot.specs.{Outcome.{at, ops_of, outcome_of}, Plan.{PowerOn, again, plan}}
+use Rattle.mc_flash.specs.Flash.{Content, IsSized}
+
+-- Where the power comes on, the same boot begins. It leaves the same from its first operation on, and has the same outcome.
+pub record BeginAlike (x y : PowerOn) : Type 0 where
+  pub plan_is : plan x ≡ plan y
+  pub ops_are : ops_of x ≡ ops_of y
+  pub later : (i : ℕ) → at x (suc i) ≡ at y (suc i)
+  pub outcome_is : outcome_of x ≡ outcome_of y
+
+-- So it is after so many operations of the boot from x, which leave u, and after one more.
+pub record HasTwin (x : PowerOn) (u : Content) (done : ℕ) : Type 0 where
+  pub twin : Content
+  pub twin_is : at x (done + 1) ≡ Some twin
+  pub sized : IsSized x.geometry twin
+  pub alike : BeginAlike (again x u) (again x twin)
