@@ -1,12 +1,13 @@
--- An operation that copies into the sector which the next boot erases first: the same boot begins before it and after it.
+-- An operation that copies into the sector which the next boot erases first, or erases one that is erased: the same boot begins before it
+-- and after it.
 use Rattle.std.proofs.{Common.{ap, arith, inl, inr, subst, sym, ◌∙◌}, Math.Nat.{mul-le-mul_right}, lemmas.Bool.{cases_Bool}}
 use Rattle.std.specs.Int.{div_ceil}
 use Rattle.std.specs.Prelude.{Bool, List, None, Some, [], false, if◌then◌else◌, length, nat_lt, not, option_map, refl, slice_get, suc, take, true, zero, ℕ, ◌*◌, ◌++◌, ◌+◌, ◌-◌, ◌<◌, ◌∷◌, ◌≡◌, ◌≤◌, ◌||◌}
-use Rattle.mc_boot.proofs.{CourseJoins.{sectors_pieces}, Courses.{get_prefix, some_trailer}, Meets.{Fit, SameOutside, Sector, WritesIn, blank_same, erase_in, erase_of, op_outside}, Sections.{get_erase}}
+use Rattle.mc_boot.proofs.{CourseJoins.{sectors_pieces}, Courses.{get_prefix, some_trailer}, Erased.{blank_noop, erased_here}, Meets.{Fit, SameOutside, Sector, WritesIn, blank_same, erase_in, erase_of, op_outside}, Sections.{get_erase}}
 use Rattle.mc_boot.specs.{Boot.{HasCome, Progress, stepped}, Outcome.{applied, at, happening, is_faulted, left_by, ops_of, outcome_of, report}}
 use Rattle.mc_boot.specs.Plan.{Plan, PowerOn, again, images_of, is_revert, new_plan, new_swap, plan, plan_with, trailer_erase, trailer_erases}
-use Rattle.mc_boot.specs.{Twins.{BeginAlike, HasTwin}, declared.image.Images.{Images}, facts.Run.{come_at, come_next, next_happens}}
-use Rattle.mc_flash.specs.{Flash.{Content, IsSized, apply, byte, sectors_of, size_of}, Geometry.{Geometry, IsLayout, greatest_sectors, in_pieces, trailer_bytes, trailer_sectors}}
+use Rattle.mc_boot.specs.{Twins.{BeginAlike, ErasesFirst, HasTwin}, declared.image.Images.{Images}, facts.Run.{come_at, come_next, next_happens}, inner.Idle.{changes_nothing}}
+use Rattle.mc_flash.specs.{Flash.{Content, IsSized, apply, byte, bytes_of, sectors_of, size_of}, Geometry.{Geometry, IsLayout, greatest_sectors, in_pieces, trailer_bytes, trailer_sectors}}
 use Rattle.mc_flash.specs.{declared.flash.Grain.{Grain}, declared.op.Op.{Op}, declared.op.Op.TheVariants.{Copy, Erase}, declared.op.Slot.{Slot}}
 use Rattle.mc_flash.specs.{declared.op.Slot.TheVariants.{Primary, Secondary}, facts.Changes.{sized_is}, facts.Layouts.{data_before_trailer, data_end, data_sectors, sector_inside, trailer_leaves_one}}
 use Rattle.mc_trailer.specs.{Tables.{is_resumed, table_of}, Trailer.{greatest, is_written, trailer_of}}
@@ -160,24 +161,40 @@ module _ (x : PowerOn) (u t : Content) (e : Sector) (same : erase_in x.geometry 
 
 -- The lemma.
 module _ (x : PowerOn) (p : Progress) (u : Content) (ok : IsLayout x.geometry) (sized : IsSized x.geometry u) (come : HasCome x p u) (early : p.count < length (ops_of x)) where
-  pub twin_there : (from to slot : Slot) (at offset len sector : ℕ) → slice_get p.to_come 0 ≡ Some (Copy from at to offset len)
-      → slice_get (plan (again x u)).list 0 ≡ Some (Erase slot sector) → to ≡ slot → sector < data_sectors x.geometry slot
-      → sector * x.geometry.sector ≤ offset → offset + len ≤ sector * x.geometry.sector + x.geometry.sector → HasTwin x u p.count
-  twin_there from to slot at offset len sector next first here below low high =
+  pub copy_twin : (from to : Slot) (at offset len : ℕ) → slice_get p.to_come 0 ≡ Some (Copy from at to offset len)
+      → ErasesFirst x.geometry (plan (again x u)).list to offset len → HasTwin x u p.count
+  copy_twin from to at offset len next erases =
       let g = x.geometry in
-      let e : Sector = record { slot = slot; index = sector } in
+      let e : Sector = record { slot = to; index = erases.sector } in
       let op : Op = Copy from at to offset len in
       let rest = begins_with p.to_come op next in
       let made = next_happens x p u op rest.0 come rest.1 early in
       let t = made.0 in
-      let writes : WritesIn g (e ∷ []) op = record { index = sector; listed = inl (here, refl); from = low; to = high } in
-      let inside = sector_inside g slot sector (omega (arith, below)) in
-      let fits : Fit g (e ∷ []) u = (omega (arith, inside, sized_is g u slot sized), tt) in
+      let writes : WritesIn g (e ∷ []) op = record { index = erases.sector; listed = inl (refl, refl); from = erases.from; to = erases.to } in
+      let inside = sector_inside g to erases.sector (omega (arith, erases.below)) in
+      let fits : Fit g (e ∷ []) u = (omega (arith, inside, sized_is g u to sized), tt) in
       let differ = op_outside g (e ∷ []) op u t writes fits made.1 in
-      let resumed = goes_on x u slot sector ok first below in
+      let resumed = goes_on x u to erases.sector ok erases.first erases.below in
       record {
         twin = t;
         twin_is = come_at x (stepped p rest.0) t (come_next x p u t op rest.0 come rest.1 made.1);
-        sized = sized_too g e u t ok sized below differ;
-        alike = begin_alike x u t e (blank_same g (e ∷ []) u t fits differ) (sym (same_plan g e u t ok sized below differ x.rules resumed)) first;
+        sized = sized_too g e u t ok sized erases.below differ;
+        alike = begin_alike x u t e (blank_same g (e ∷ []) u t fits differ) (sym (same_plan g e u t ok sized erases.below differ x.rules resumed)) erases.first;
+      }
+
+  pub erase_twin : (slot : Slot) (sector : ℕ) → slice_get p.to_come 0 ≡ Some (Erase slot sector) → sector < sectors_of x.geometry slot
+      → changes_nothing x.geometry u (Erase slot sector) ≡ true → HasTwin x u p.count
+  unfolding apply
+  erase_twin slot sector next below idle =
+      let g = x.geometry in
+      let e : Sector = record { slot = slot; index = sector } in
+      let rest = begins_with p.to_come (Erase slot sector) next in
+      let inside = sector_inside g slot sector below in
+      let ends : sector * g.sector + g.sector ≤ length (bytes_of u slot) = omega (arith, inside, sized_is g u slot sized) in
+      let same : apply g (Erase slot sector) u ≡ Some u = ap (λ (s : Content). Some s) (blank_noop g (e ∷ []) u (ends, tt) (erased_here g u e ends idle, tt)) in
+      record {
+        twin = u;
+        twin_is = come_at x (stepped p rest.0) u (come_next x p u u (Erase slot sector) rest.0 come rest.1 same);
+        sized = sized;
+        alike = record { plan_is = refl; ops_are = refl; later = λ i. refl; outcome_is = refl };
       }

@@ -1,7 +1,8 @@
 -- Cuts one operation apart after which the same boot begins.
-use Rattle.std.specs.Prelude.{Some, suc, ℕ, ◌+◌, ◌≡◌}
+use Rattle.std.specs.Prelude.{List, Some, slice_get, suc, ℕ, ◌*◌, ◌+◌, ◌<◌, ◌≡◌, ◌≤◌}
 use Rattle.mc_boot.specs.{Outcome.{at, ops_of, outcome_of}, Plan.{PowerOn, again, plan}}
-use Rattle.mc_flash.specs.Flash.{Content, IsSized}
+use Rattle.mc_flash.specs.{Flash.{Content, IsSized}, Geometry.{Geometry}, declared.op.Op.{Op}, declared.op.Op.TheVariants.{Erase}}
+use Rattle.mc_flash.specs.{declared.op.Slot.{Slot}, facts.Layouts.{data_sectors}}
 
 -- Where the power comes on, the same boot begins. It leaves the same from its first operation on, and has the same outcome.
 pub record BeginAlike (x y : PowerOn) : Type 0 where
@@ -16,3 +17,11 @@ pub record HasTwin (x : PowerOn) (u : Content) (done : ℕ) : Type 0 where
   pub twin_is : at x (done + 1) ≡ Some twin
   pub sized : IsSized x.geometry twin
   pub alike : BeginAlike (again x u) (again x twin)
+
+-- The first of some operations erases a sector that holds no trailer, and in which these bytes of the slot lie.
+pub record ErasesFirst (g : Geometry) (ops : List Op) (slot : Slot) (offset len : ℕ) : Type 0 where
+  pub sector : ℕ
+  pub first : slice_get ops 0 ≡ Some (Erase slot sector)
+  pub below : sector < data_sectors g slot
+  pub from : sector * g.sector ≤ offset
+  pub to : offset + len ≤ sector * g.sector + g.sector

@@ -1,6 +1,7 @@
 //! Where the flashes after a power cut lie among those of the boot that was cut.
 ghost use Rattle.std.specs.Prelude.{◌≡◌, ◌≢◌, ℕ, ◌+◌, ◌<◌, ◌≤◌, ◌^◌, IfSome, slice_get, true};
-ghost use Rattle.mc_flash.specs.Flash.{Content};
+ghost use Rattle.mc_flash.specs.Flash.{Content, sectors_of};
+ghost use Rattle.mc_flash.specs.declared.op.Op.TheVariants.{Erase};
 ghost use Rattle.mc_flash.specs.Geometry.{in_pieces};
 ghost use Rattle.mc_trailer.specs.declared.tables.Rules.{Rules};
 ghost use Rattle.mc_boot.specs.Joins.{IsCut, erases_of};
@@ -12,7 +13,7 @@ ghost use Rattle.mc_boot.specs.Plan.{plan, power_on, powered};
 use crate::boot::Boot;
 use crate::course::{Course, Opening};
 use crate::kept_operations::count_kept;
-use mc_flash::{Flash, Op, blank};
+use mc_flash::{Flash, Op, Slot, blank};
 
 /// Where the flashes that the boot after a power cut leaves lie among those of the boot that was cut.
 #[derive(Clone, Copy)]
@@ -139,6 +140,17 @@ fn erases_of(course: &Course) -> u32
     }
 }
 
+/// Whether a sector is erased.
+pub fn is_erased<F: Flash>(flash: &F, slot: Slot, sector: u32) -> bool
+    requires { sector < sectors_of (F.seen flash.now).geometry slot }
+    ensures { result ≡ true → changes_nothing (F.seen flash.now).geometry
+        (F.seen flash.now).content (Erase slot sector) ≡ true }
+{
+    let size = flash.layout().sector() as usize;
+    let at = sector as usize * size;
+    blank(&flash.read(slot)[at..at + size])
+}
+
 /// Whether the operation of that number erases a sector that is erased.
 fn is_idle<F: Flash>(flash: &F, course: &Course, number: u32) -> bool
     requires { course.now.layout ≡ in_pieces course.now.grain (F.seen flash.now).geometry }
@@ -148,9 +160,7 @@ fn is_idle<F: Flash>(flash: &F, course: &Course, number: u32) -> bool
     let Some(Op::Erase(slot, sector)) = course.op(number) else {
         return false;
     };
-    let size = flash.layout().sector() as usize;
-    let at = sector as usize * size;
-    blank(&flash.read(slot)[at..at + size])
+    is_erased(flash, slot, sector)
 }
 
 /// The only one of the first so many operations that changes something: the one after them where none does, and nothing where

@@ -53,7 +53,7 @@ impl FlashTree for TwoRounds<'_> {
     }
 
     // Twins are of the second round alone: which boot began it is part of a node.
-    fn has_twin(self, _at: &ChildBoot, _child: &Both) -> bool {
+    fn has_twin<F: Flash>(self, _flash: &F, _at: &ChildBoot, _child: &Both) -> bool {
         false
     }
 

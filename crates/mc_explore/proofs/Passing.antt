@@ -67,6 +67,15 @@ module _ {N A T B : Type 0} (model : B → TreeModel N A T) (old : Walked B) whe
     pub come_below : (now : Walked B) → PassesBelow (model at.flash_tree) at now → HasCome model old (suc number) now
     come_below now below = grind (arith, append_assoc)
 
+    -- The next child has the totals of the one at which the walk stands.
+    pub alike_there : (report_of : B → List ℕ → Report) (e : Expectation) → GoesOnAlike model report_of at → (d : ℕ)
+        → weigh_below (paths_of k) (report_of old.flash_tree) e old.path d (number + 1) ≡ weigh_below (paths_of k) (report_of old.flash_tree) e old.path d (number + 1 - 1)
+    alike_there report_of e alike zero = refl
+    alike_there report_of e alike (suc d) =
+        let back : number ≡ number + 1 - 1 = omega arith in
+        let P : B → ℕ → Type 0 = λ b c. weigh (paths_of (model b)) (report_of b) e d (old.path ++ (number + 1) ∷ []) ≡ weigh (paths_of (model b)) (report_of b) e d (old.path ++ c ∷ []) in
+        subst (P old.flash_tree) back (subst (λ b. P b number) here.same.flash_tree (alike e old.path number here.path d))
+
     -- What is known of it there is known of that child.
     module _ (report_of : B → List ℕ → Report) (e : Expectation) where
       pub tail_there : (x : SharedTail) → IsTailOf (paths_of (model at.flash_tree)) (report_of at.flash_tree) e old.path number x
@@ -80,16 +89,6 @@ module _ {N A T B : Type 0} (model : B → TreeModel N A T) (old : Walked B) whe
       pub own_there : (report judged_report : Report) → report ≡ report_of at.flash_tree at.path → judged_report ≡ judged e report
           → own_totals (paths_of k) (report_of old.flash_tree) e (old.path ++ number ∷ []) ≡ report_totals judged_report
       own_there report judged_report is judged_is = grind arith
-
-  -- The next child has the totals of the one at which the walk stands.
-  pub alike_before : (report_of : B → List ℕ → Report) (e : Expectation) (number : ℕ) (now : Walked B) → IsSame old now → 1 ≤ number → now.path ≡ old.path ++ (number - 1) ∷ []
-      → GoesOnAlike model report_of now → (d : ℕ)
-      → weigh_below (paths_of k) (report_of old.flash_tree) e old.path d number ≡ weigh_below (paths_of k) (report_of old.flash_tree) e old.path d (number - 1)
-  alike_before report_of e number now same some path alike zero = refl
-  alike_before report_of e number now same some path alike (suc d) =
-      let next : number - 1 + 1 ≡ number = omega (arith, some) in
-      let P : B → ℕ → Type 0 = λ b c. weigh (paths_of (model b)) (report_of b) e d (old.path ++ c ∷ []) ≡ weigh (paths_of (model b)) (report_of b) e d (old.path ++ (number - 1) ∷ []) in
-      subst (P old.flash_tree) next (subst (λ b. P b (number - 1 + 1)) same.flash_tree (alike e old.path (number - 1) path d))
 
   -- At the root of the walk.
   pub root_weighs : (now : Walked B) (report_of : B → List ℕ → Report) (e : Expectation) (bound : ℕ) (census : Census) → IsSame old now → now.path ≡ []

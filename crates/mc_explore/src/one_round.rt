@@ -155,8 +155,8 @@ impl FlashTree for OneRound<'_> {
         summary.outcome.ops
     }
 
-    fn has_twin(self, at: &Boot, child: &Summary) -> bool {
-        has_twin(self.start.layout(), at, &child.boot)
+    fn has_twin<F: Flash>(self, flash: &F, at: &Boot, child: &Summary) -> bool {
+        has_twin(flash, at, &child.boot)
     }
 
     fn first_child<F: Flash>(self, _flash: &mut F, summary: &Summary) -> Result<Boot, AllocError> {

@@ -119,15 +119,16 @@ fn column<F: Flash, X: Ending>(
     }
     let count = flash_tree.width(&summary);
     let mut runs = Vec::new(alloc);
-    // Whether the walk stands at the child before.
-    let mut is_there = false;
+    // Whether the child has the censuses of the one before.
+    let mut is_alike = false;
     for number in 0..count {
-        if is_there && goes_on_alike(walk) {
+        if is_alike {
             go_to_child(walk, number)?;
+            is_alike = goes_on_alike(walk);
             continue;
         }
         let end = visit_child(walk, number)?;
-        is_there = end.tail.is_some();
+        is_alike = goes_on_alike(walk);
         let below = match end.tail {
             Some(shared_tail) => Below::Joined(shared_tail),
             None => Below::Apart(column(alloc, walk, bound - 1, expectation)?),

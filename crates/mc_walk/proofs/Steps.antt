@@ -318,7 +318,7 @@ module _ {N A T : Type 0} (k : TreeModel N A T) where
   )
 
   -- The next child of the node before it is a twin.
-  module _ (bound : ℕ) (seen : Seen) (all : List (Frame A T)) (stood : Option T) (summary : T) (going : IsGoing k bound seen all summary) (on : IsTwinOn k all stood summary) where
+  module _ (bound : ℕ) (seen : Seen) (all : List (Frame A T)) (stood : Option T) (summary : T) (going : IsGoing k bound seen all summary) (on : IsTwinOn k seen all stood summary) where
     last_same : (fs : List (Frame A T)) (f : Frame A T) → all ≡ fs ++ f ∷ [] → f ≡ on.frame
     last_same fs f split = one_last all fs on.before f on.frame split on.frames_are
 
@@ -330,7 +330,12 @@ module _ {N A T : Type 0} (k : TreeModel N A T) where
         let is = last_same fs f split in
         let more = (subst (IsOpen k) (sym is) on.open_is) (node_of k fs) frame.summary_is in
         let here : k.IsSummary (k.tree.child (node_of k fs) f.number) summary = subst (λ n. k.IsSummary n summary) (ap (node_of k) split ∙ node-push k fs f) s.summary_is in
-        (more, here, on.twin (node_of k fs) f.number (subst (λ (z : Frame A T). k.IsOn (node_of k fs) f.number z.at) is frame.on_is) more here)
+        let at : IsAt k (node_of k fs) f.number f.at seen = record {
+          on_is = frame.on_is;
+          content_is = s.content_is ∙ ap (λ xs. k.content (node_of k xs)) split ∙ ap k.content (node-push k fs f);
+          layout_is = s.layout_is;
+        } in
+        (more, here, on.twin (node_of k fs) f.number (subst (λ (z : Frame A T). IsAt k (node_of k fs) f.number z.at seen) is at) more here)
 
     pub before_twin : {B : Type 0} (b : B) → IsBeforeTwin k (walked b bound seen all stood) summary
     before_twin b =
@@ -352,14 +357,14 @@ module _ {N A T : Type 0} (k : TreeModel N A T) where
         sym (parts ∙ ap (λ z. left ++ z) none ∙ append-nil left)
 
   pub known_next : (bound : ℕ) (seen : Seen) (all left : List (Frame A T)) (stood twin : Option T) → IfSome stood (IsGoing k bound seen all) → IsLeft k all left
-      → IfSome twin (IsTwinOn k all stood) → IsKnown k left twin
+      → IfSome twin (IsTwinOn k seen all stood) → IsKnown k left twin
   known_next bound seen all left stood None going l on = λ fs f split. tt
   known_next bound seen all left stood (Some summary) going l on = λ fs f split.
       let here : IsGoing k bound seen all summary = subst (λ o. IfSome o (IsGoing k bound seen all)) on.stood_is going in
       (twin_at bound seen all stood summary here on fs f (sym (none_left bound seen all stood summary here on left l) ∙ split)).2.summary_is
 
   pub before_next : {B : Type 0} (b : B) (bound : ℕ) (seen : Seen) (all : List (Frame A T)) (stood twin : Option T) → IfSome stood (IsGoing k bound seen all)
-      → IfSome twin (IsTwinOn k all stood) → IfSome twin (IsBeforeTwin k (walked b bound seen all stood))
+      → IfSome twin (IsTwinOn k seen all stood) → IfSome twin (IsBeforeTwin k (walked b bound seen all stood))
   before_next b bound seen all stood None going on = tt
   before_next b bound seen all stood (Some summary) going on =
       before_twin bound seen all stood summary (subst (λ o. IfSome o (IsGoing k bound seen all)) on.stood_is going) on b

@@ -34,12 +34,14 @@ pub(crate) fn enter<F: Flash, B: FlashTree>(
 
 /// The summary of the next child of the node before the last frame, where that surely is a twin of the child where a walk stands, which
 /// has that summary.
-pub(crate) fn twin_of<B: FlashTree>(
+pub(crate) fn twin_of<F: Flash, B: FlashTree>(
     flash_tree: B,
+    flash: &F,
     frames: &[Frame<B::Child, B::Summary>],
     summary: Option<B::Summary>,
 ) -> Option<B::Summary>
-    ensures { IfSome result (IsTwinOn (B.model flash_tree) frames.now summary) }
+    ensures { IfSome result (IsTwinOn (B.model flash_tree) (F.seen flash.now) frames.now
+        summary) }
 {
     let frame = frames.last()?;
     let summary = summary?;
@@ -47,7 +49,7 @@ pub(crate) fn twin_of<B: FlashTree>(
     if last <= frame.number {
         return None;
     }
-    if !flash_tree.has_twin(&frame.at, &summary) {
+    if !flash_tree.has_twin(flash, &frame.at, &summary) {
         return None;
     }
     Some(summary)

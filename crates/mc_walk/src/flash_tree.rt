@@ -7,7 +7,7 @@ use std::alloc::AllocError;
 pub trait FlashTree: Copy {
     ghost use Rattle.std.specs.Prelude.{◌≡◌, ℕ, ◌+◌, ◌<◌, true, IfOk, OnOk};
     ghost use Rattle.mc_flash.specs.Usage.{Keeps, HasRoom, Spends, Stays};
-    ghost use Rattle.mc_walk.specs.TreeModel.{TreeModel, CanReach, Reaches, HasNext, ReachesNext, IsRoot, IsChild, IsChildSummary, IsTwin, HasWidth, owed_there, summary_cost};
+    ghost use Rattle.mc_walk.specs.TreeModel.{TreeModel, CanReach, IsAt, Reaches, HasNext, ReachesNext, IsRoot, IsChild, IsChildSummary, IsTwin, HasWidth, owed_there, summary_cost};
 
     ghost Node: { Type 0 };
 
@@ -52,9 +52,10 @@ pub trait FlashTree: Copy {
         ensures keeps { OnOk result (Keeps (F.seen flash.old) (F.seen flash.new)) }
         ensures spends { Spends (model self).step (F.seen flash.old) result (F.seen flash.new) };
 
-    /// Whether the next child of its node is a twin of that one, with that summary.
-    fn has_twin(self, at: &Self::Child, child: &Self::Summary) -> bool
-        ensures { result ≡ true → (n : Node) (i : ℕ) → (model self).IsOn n i at.now
+    /// Whether the next child of its node surely is a twin of that one, with that summary, at which the flash stands.
+    fn has_twin<F: Flash>(self, flash: &F, at: &Self::Child, child: &Self::Summary) -> bool
+        ensures { result ≡ true → (n : Node) (i : ℕ)
+            → IsAt (model self) n i at.now (F.seen flash.now)
             → i + 1 < (model self).tree.width n
             → (model self).IsSummary ((model self).tree.child n i) child.now
             → IsTwin (model self) n i child.now };

@@ -199,7 +199,7 @@ impl<F: Flash, B: FlashTree> Walk<F, B> {
         requires { self.now.stands ≡ true }
         ensures { IfSome result (IsBeforeTwin (B.model self.now.flash_tree) self.now) }
     {
-        twin_of(self.flash_tree, &self.frames, self.summary)
+        twin_of(self.flash_tree, &self.flash, &self.frames, self.summary)
     }
 
     /// Goes up to the last node that has a further child, and on to that child.
@@ -216,7 +216,7 @@ impl<F: Flash, B: FlashTree> Walk<F, B> {
         ensures spends { Spends (child_cost (B.model self.old.flash_tree) 0) self.old.seen result
             self.new.seen }
     {
-        let twin = twin_of(self.flash_tree, &self.frames, self.summary);
+        let twin = twin_of(self.flash_tree, &self.flash, &self.frames, self.summary);
         self.summary = None;
         if !leave_spent(self.flash_tree, &mut self.frames) {
             return Ok(false);

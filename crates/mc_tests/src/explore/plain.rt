@@ -39,7 +39,7 @@ impl FlashTree for Plain<'_> {
         self.boots.width(summary)
     }
 
-    fn has_twin(self, _at: &Boot, _child: &Summary) -> bool {
+    fn has_twin<F: Flash>(self, _flash: &F, _at: &Boot, _child: &Summary) -> bool {
         false
     }
 

@@ -2,7 +2,7 @@
 use Rattle.std.specs.Prelude.{Bool, IfSome, List, Option, Some, [], false, length, map, true, ℕ, ◌++◌, ◌+◌, ◌<◌, ◌^◌, ◌∷◌, ◌≡◌, ◌≤◌}
 use Rattle.mc_flash.specs.{Usage.{Checkpoint, Counts, HasRoom, LeaveRoom, Seen, checkpoint_of, marked, plus, times}}
 use Rattle.mc_tree.specs.Tree.{landed}
-use Rattle.mc_walk.specs.{TreeModel.{HasNext, IsTwin, TreeModel, owed_there}, declared.frame.Frame.{Frame}}
+use Rattle.mc_walk.specs.{TreeModel.{HasNext, IsAt, IsTwin, TreeModel, owed_there}, declared.frame.Frame.{Frame}}
 
 -- The path that the frames stand for.
 abbrev pub path_of : {A T : Type 0} → List (Frame A T) → List ℕ
@@ -127,13 +127,13 @@ module _ {N A T : Type 0} (k : TreeModel N A T) where
     pub roomy : IsRoomy bound seen
 
   -- The node before the last frame has a further child, which is a twin of the one where a walk stands, with that summary.
-  pub record IsTwinOn (fs : List (Frame A T)) (stood : Option T) (summary : T) : Type 0 where
+  pub record IsTwinOn (seen : Seen) (fs : List (Frame A T)) (stood : Option T) (summary : T) : Type 0 where
     pub stood_is : stood ≡ Some summary
     pub before : List (Frame A T)
     pub frame : Frame A T
     pub frames_are : fs ≡ before ++ frame ∷ []
     pub open_is : IsOpen frame
-    pub twin : (n : N) (i : ℕ) → k.IsOn n i frame.at → i + 1 < k.tree.width n → k.IsSummary (k.tree.child n i) summary → IsTwin k n i summary
+    pub twin : (n : N) (i : ℕ) → IsAt k n i frame.at seen → i + 1 < k.tree.width n → k.IsSummary (k.tree.child n i) summary → IsTwin k n i summary
 
   -- That is the summary of the next child of the node before the last frame, if it is known.
   abbrev pub IsKnown : List (Frame A T) → Option T → Type 0

@@ -1,8 +1,7 @@
-use Rattle.std.proofs.Common.{Some, false, is_some, true, [], ap, arith, length, length-append, refl, subst, suc, sym, ℕ, ◌++◌, ◌+◌, ◌-◌, ◌∙◌, ◌∷◌, ◌≡◌}
+use Rattle.std.proofs.Common.{Some, [], ap, arith, length, length-append, refl, subst, suc, sym, ℕ, ◌++◌, ◌+◌, ◌-◌, ◌∙◌, ◌∷◌, ◌≡◌}
 use Rattle.mc_boot.specs.Outcome.{shown}
 use Rattle.mc_explore.proofs.Runs.{twin_more}
-use Rattle.mc_walk.specs.Walks.{Walked}
-use Rattle.mc_explore.proofs.{Counting.{is_joined, weigh_is}, Passing.{alike_before, come_below, own_there, passes_all, passes_none, tail_there, weights_there}}
+use Rattle.mc_explore.proofs.{Counting.{is_joined, weigh_is}, Passing.{alike_there, come_below, own_there, passes_all, passes_none, tail_there, weights_there}}
 use Rattle.mc_explore.specs.{facts.Children.{HasCome, IsAtChild, can_pass, come_on, listed_there, reached, width_here}, Right.{judged}}
 use Rattle.mc_explore.specs.{declared.table.Below.{Below}, inner.Table.{AreRuns, HasWeights, IsChild, IsJoined, own_totals, paths_of, weigh_below}}
 use Rattle.mc_explore.specs.inner.Totals.{merged, cut_off, report_totals, totals}
@@ -28,8 +27,19 @@ at_child g t c =
 pub go_to_child-requires-clause-passed : goal.go_to_child-requires-clause-passed
 go_to_child-requires-clause-passed g t c = grind (arith, width_here, can_pass)
 
-pub loop-number-preserved-then-goes_on_alike : goal.loop-number-preserved-then-goes_on_alike
-loop-number-preserved-then-goes_on_alike g t c =
+pub goes_on_alike-is_alike-requires : goal.goes_on_alike-is_alike-requires
+goes_on_alike-is_alike-requires g t c =
+    let walk = c.args.walk.now in
+    let h = c.in_ok-go_to_child.ensures in
+    let all = width_here g.X.FlashTree.model walk c.flash_tree-flash_tree.result c.summary.result.now c.width-count.result c.flash_tree-flash_tree.ensures c.summary.ensures c.width-count.ensures in
+    (reached g.X.FlashTree.model walk c.requires.listed c.loop-number.number (omega (arith, c.loop-number-test.true, all)) (omega (arith, c.requires.deep, c.if-bound-eq0.false)) _
+    c.loop-number.invariant.come c.go_to_child.new.walk h.reaches h.limits).stands
+
+pub goes_on_alike-is_alike-requires-in-loop-number : goal.goes_on_alike-is_alike-requires-in-loop-number
+goes_on_alike-is_alike-requires-in-loop-number g t c = (at_child g t (goal.at.goes_on_alike-is_alike-requires-in-loop-number g t c).In_ok-end).stands
+
+pub loop-number-preserved-then-is_alike : goal.loop-number-preserved-then-is_alike
+loop-number-preserved-then-is_alike g t c =
     let walk = c.args.walk.now in
     let model = g.X.FlashTree.model in
     let report_of = g.X.Ending.report_of in
@@ -40,15 +50,13 @@ loop-number-preserved-then-goes_on_alike g t c =
     let h = c.in_ok-go_to_child.ensures in
     let all = width_here model walk c.flash_tree-flash_tree.result c.summary.result.now c.width-count.result c.flash_tree-flash_tree.ensures c.summary.ensures c.width-count.ensures in
     let here = reached model walk c.requires.listed n (omega (arith, c.loop-number-test.true, all)) (omega (arith, c.requires.deep, c.if-bound-eq0.false)) _ i.come at h.reaches h.limits in
-    let before = i.there c.if-is_there.true in
+    let same = i.alike c.if-is_alike.true in
     let under = weigh_below (paths_of (model walk.flash_tree)) (report_of walk.flash_tree) e walk.path in
-    let same = alike_before model walk report_of e n c.loop-number.walk i.come.same before.0 before.1 (c.goes_on_alike.ensures c.if-goes_on_alike.true) in
     let one : suc n ≡ n + 1 = omega arith in
-    let back : n ≡ n + 1 - 1 = omega arith in
     record {
       come = subst (λ m. HasCome model walk m at) one (come_on model walk n at here);
-      runs = twin_more under c.width-count.result c.args.bound (λ i. refl) n c.loop-number.runs.items i.runs before.0 same;
-      there = λ _. (omega arith, here.path ∙ ap (λ m. walk.path ++ m ∷ []) back);
+      runs = twin_more under c.width-count.result c.args.bound (λ i. refl) n c.loop-number.runs.items i.runs same.0 same.1;
+      alike = λ is. (omega arith, alike_there model walk n at here report_of e (c.goes_on_alike-is_alike.ensures is));
     }
 
 pub column-requires : goal.column-requires
@@ -77,7 +85,6 @@ loop-number-preserved g t c =
     let at = c.visit_child.new.walk in
     let here = at_child g t x in
     let one : suc n ≡ n + 1 = omega arith in
-    let back : n ≡ n + 1 - 1 = omega arith in
     let fewer : bound - 1 + 1 ≡ bound = omega (arith, c.if-bound-eq0.false) in
     let paths = paths_of (model walk.flash_tree) in
     let report = report_of walk.flash_tree in
@@ -102,10 +109,7 @@ loop-number-preserved g t c =
     record {
       come = subst (λ m. HasCome model walk m c.match-end.walk) one come;
       runs = c.in_ok-add_child.ensures under c.width-count.result bound (λ i. refl) i.runs child;
-      there = λ is. elim c.match-end.branch [
-        | in-Some w ↦ (omega arith, ap (λ (z : Walked _). z.path) w.walk-is ∙ here.path ∙ ap (λ m. walk.path ++ m ∷ []) back)
-        | in-None+in_ok-column-in-None w ↦ let none : false ≡ true = sym (c.is_some-is_there.ensures ∙ ap (λ o. is_some o) w.in-None.is) ∙ is in absurd (cc)
-      ];
+      alike = λ is. (omega arith, alike_there model walk n at here report_of e (c.goes_on_alike-is_alike-in-loop-number.ensures is));
     }
 
 pub returns-clause-column : goal.returns-clause-column

@@ -1,4 +1,4 @@
-use Rattle.std.proofs.Common.{[], true, ◌++◌, ◌-◌, ◌∷◌, ◌≡◌, ◌≤◌}
+use Rattle.std.proofs.Common.{true, ℕ, ◌-◌, ◌≡◌, ◌≤◌}
 use Rattle.mc_explore.specs.{facts.Children.{HasCome}, inner.Table.{AreRuns, paths_of, weigh_below}}
 use Rattle.mc_explore.proofs.start_census.+column.Given as goal
 
@@ -12,5 +12,7 @@ invariant-loop-number g l =
     record {
       come : HasCome g.X.FlashTree.model old l.number l.walk;
       runs : AreRuns (weigh_below (paths_of k) (g.X.Ending.report_of old.flash_tree) l.fn.expectation old.path) l.count l.bound l.number l.runs.items;
-      there : l.is_there ≡ true → (1 ≤ l.number) × (l.walk.path ≡ old.path ++ (l.number - 1) ∷ []);
+      alike : l.is_alike ≡ true → (1 ≤ l.number)
+          × ((d : ℕ) → weigh_below (paths_of k) (g.X.Ending.report_of old.flash_tree) l.fn.expectation old.path d l.number
+          ≡ weigh_below (paths_of k) (g.X.Ending.report_of old.flash_tree) l.fn.expectation old.path d (l.number - 1));
     }
