@@ -72,6 +72,7 @@ impl SharedTail {
     }
 
     /// After how many operations of the boot that was cut the flash was what it is after that number of the next one.
+    #[inline]
     pub fn index_in_parent(&self, number: u32) -> u32
         requires { number < 2 ^ 31 }
         ensures { result ≡ index_in_parent self.now number }

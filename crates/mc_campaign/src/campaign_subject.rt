@@ -142,7 +142,7 @@ impl Subject for TwoRounds<'_> {
     ) -> Option<CampaignRow> {
         let told = kept.find(&rows.ahead.shared_tail, rows.next)?;
         let campaign = rows.ahead.campaign_of(rows.next)?;
-        let Ends { first, second } = rows.ahead.ends_of(rows.next, &told);
+        let Ends { first, second } = rows.ahead.ends_of(rows.next, told);
         Some(CampaignRow {
             campaign,
             first,

@@ -14,6 +14,7 @@ pub struct RowsAhead<A> {
 }
 
 /// Those where one is still to come.
+#[inline]
 pub(crate) fn still_to_come<A: Copy>(rows: Option<RowsAhead<A>>) -> Option<RowsAhead<A>>
     ensures { MatchOption result (IfSome rows IsSpent) (λ left. (rows ≡ Some left) × (left.next
         < left.count)) }

@@ -1,5 +1,5 @@
 //! What was told at the cuts of one boot.
-ghost use Rattle.std.specs.Prelude.{◌≡◌, ℕ, ◌+◌, ◌<◌, ◌≤◌, ◌^◌, ◌⊎◌, [], length, slice_get, None, IfOk, IfSome, true};
+ghost use Rattle.std.specs.Prelude.{◌≡◌, ℕ, ◌+◌, ◌<◌, ◌≤◌, ◌^◌, ◌⊎◌, [], length, slice_get, option_map, None, IfOk, IfSome, true};
 ghost use Rattle.mc_boot.specs.SharedTail.{index_in_parent};
 ghost use Rattle.mc_explore.specs.inner.LastCuts.{HasTold, IsIndexOf};
 
@@ -67,13 +67,14 @@ impl<O: Copy> AtCuts<O> {
     }
 
     /// What was told at the cut of its boot where that of the other boot finds its flash, if it is kept.
-    pub fn find(&self, shared_tail: &SharedTail, number: u32) -> Option<O>
+    #[inline]
+    pub fn find(&self, shared_tail: &SharedTail, number: u32) -> Option<&O>
         requires { number < 2 ^ 31 }
         ensures { (i : ℕ) → index_in_parent shared_tail.now number ≡ self.now.first + i
-            → result ≡ slice_get self.now.told.items i }
+            → option_map (λ o. o.now) result ≡ slice_get self.now.told.items i }
     {
         let index = shared_tail.index_in_parent(number).checked_sub(self.first)?;
-        self.told.get(index as usize).copied()
+        self.told.get(index as usize)
     }
 
     /// Whether all is kept that was told at those cuts of its boot, with so many operations, to which another boot leads.

@@ -92,6 +92,7 @@ impl<F: Flash + Drop, X: Subject> Rows<F, X> {
     /// # Errors
     ///
     /// `Memory` where the flash was refused memory; from then on always `Failed`.
+    #[inline(always)]
     pub fn next(&mut self) -> Result<Option<X::Row>, TourError>
         ensures finds { IfOk result (λ found. FindsRow X.subject X.model X.begins X.choice X.key_of
             self.old (option_map X.shown found) self.new) }

@@ -113,7 +113,10 @@ impl Subject for OneRound<'_> {
         let outcome = kept.find(&rows.ahead, rows.next)?;
         let mut schedule = *path;
         schedule.push(rows.next);
-        Some(Row { schedule, outcome })
+        Some(Row {
+            schedule,
+            outcome: *outcome,
+        })
     }
 
     #[inline]

@@ -177,6 +177,7 @@ impl<'a, F: Flash + Drop, X: Subject> TreeExplorer<'a, F, X> {
     /// # Errors
     ///
     /// `Memory` where the flash was refused memory; from then on always `Failed`.
+    #[inline(always)]
     pub fn next_row(&mut self) -> Result<Option<X::Row>, ExploreError>
         // It is the first row past the position, and there is none exactly where no key is past it.
         ensures found { IfOk result (λ found. Finds X.subject self.old.state
@@ -259,7 +260,7 @@ impl<'a, F: Flash + Drop, X: Subject> RowSource for TreeExplorer<'a, F, X> {
 
     ghost cost_stays = { λ s k. refl };
 
-    #[inline]
+    #[inline(always)]
     fn next_before(&mut self, until: &Option<X::Key>) -> Result<Option<X::Row>, ExploreError> {
         let found = self.next_row()?;
         if let Some(row) = &found {
@@ -270,6 +271,7 @@ impl<'a, F: Flash + Drop, X: Subject> RowSource for TreeExplorer<'a, F, X> {
         Ok(found)
     }
 
+    #[inline]
     fn write_row<W: Write>(
         &self,
         row: &X::Row,

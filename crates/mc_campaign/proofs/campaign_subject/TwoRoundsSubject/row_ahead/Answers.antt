@@ -1,4 +1,4 @@
-use Rattle.std.proofs.Common.{List, None, Some, [], ap, arith, length, subst, sym, ℕ, ◌++◌, ◌<◌, ◌∙◌, ◌∷◌}
+use Rattle.std.proofs.Common.{List, None, Some, [], ap, arith, length, option_map, subst, sym, ℕ, ◌++◌, ◌<◌, ◌∙◌, ◌∷◌}
 use Rattle.mc_boot.specs.{Outcome.{shown}, declared.outcome.Outcome.{Outcome}}
 use Rattle.mc_campaign.proofs.{Along.{labelled-length}, LastCuts.{campaign_ordered, campaign_there, outcomes_there}}
 use Rattle.mc_campaign.specs.{Rows.{HasOutcomes}, inner.LastCuts.{AreLikePaths, EndSoAt}, inner.TwoRounds.{cuts_along, model_of, rounds, second_start}}
@@ -11,7 +11,7 @@ returns-in_err-told c = λ holds are allowed.
     let t = c.args.self in
     let rows = c.args.rows.now in
     absurd (told_there (model_of t) (AreLikePaths t) (EndSoAt t) c.args._path.now c.args.kept.now rows.ahead.shared_tail rows.count rows.next are.are c.requires.some None
-    (λ i at. sym c.in_err-told.was ∙ c.find.ensures i at) holds)
+    (λ i at. ap (option_map (λ o. o.now)) (sym c.in_err-told.was) ∙ c.find.ensures i at) holds)
 
 pub returns-in_err-campaign : goal.returns-in_err-campaign
 returns-in_err-campaign c = λ holds are allowed.
@@ -30,9 +30,9 @@ returns c = λ holds are allowed.
     let rows = c.args.rows.now in
     let kept = c.args.kept.now in
     let path = c.args._path.now in
-    let ends = c.in_ok-told.told in
+    let ends = c.in_ok-told.told.now in
     let told = told_there (model_of t) (AreLikePaths t) (EndSoAt t) path kept rows.ahead.shared_tail rows.count rows.next are.are c.requires.some (Some ends)
-    (λ i at. sym c.in_ok-told.was ∙ c.find.ensures i at) holds in
+    (λ i at. ap (option_map (λ o. o.now)) (sym c.in_ok-told.was) ∙ c.find.ensures i at) holds in
     let like = like_there (model_of t) (AreLikePaths t) (EndSoAt t) path kept rows.ahead.shared_tail rows.count rows.next are.are c.requires.some in
     let key = c.in_ok-campaign.ensures.more ∙ campaign_there t kept path rows.ahead rows.count rows.next are allowed in
     let P : List (ℕ × ℕ) → Outcome → Outcome → Type 0 = λ d one two. HasOutcomes start k (record { campaign = d; first = shown one; second = shown two }) in
