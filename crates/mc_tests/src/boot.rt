@@ -8,7 +8,7 @@ mod joins;
 mod lives;
 
 use crate::common::{flash_of, same, same_at};
-use mc_boot::{Boot, BootResult, Outcome, SharedTail, confirm};
+use mc_boot::{Boot, BootResult, Outcome, SharedTail, confirm, has_twin};
 use mc_flash::{Flash, SnapFlash};
 use mc_trailer::Rules;
 use std::process::Abort;
@@ -119,5 +119,23 @@ fn places_after_cuts(rt: HostRuntime) {
     for (cut, wanted) in &PLACES {
         let found = places(&mut flash_of(&rt, rt.alloc(), "IMAGES"), *cut);
         same_at(&rt, cut, &found, &Some(*wanted));
+    }
+}
+
+/// Whether the boot that begins after a cut surely begins after the cut one operation later too.
+fn is_followed_alike(flash: &mut SnapFlash, cut: u32) -> bool {
+    let mut boot = Boot::cold(flash, Rules::PLAIN);
+    run(flash, &mut boot, cut);
+    let next = Boot::cold(flash, Rules::PLAIN);
+    has_twin(flash, &boot, &next)
+}
+
+/// The erase of a blank trailer and of a blank sector, and in the second transfer and the third both copies. The boot after a cut in the
+/// first transfer erases the secondary's trailer first.
+#[test]
+fn cuts_with_a_twin(rt: HostRuntime) {
+    for cut in 0..18 {
+        let found = is_followed_alike(&mut flash_of(&rt, rt.alloc(), "IMAGES"), cut);
+        same_at(&rt, &cut, &found, &matches!(cut, 0 | 5 | 10 | 11 | 14 | 15));
     }
 }
