@@ -138,11 +138,13 @@ impl Subject for TwoRounds<'_> {
         self,
         kept: &AtCuts<Ends>,
         _path: &Schedule,
-        rows: &RowsAhead<Ahead>,
+        rows: &mut RowsAhead<Ahead>,
     ) -> Option<CampaignRow> {
-        let told = kept.find(&rows.ahead.shared_tail, rows.next)?;
-        let campaign = rows.ahead.campaign_of(rows.next)?;
-        let Ends { first, second } = rows.ahead.ends_of(rows.next, told);
+        let number = rows.next;
+        rows.next += 1;
+        let told = kept.find(&rows.ahead.shared_tail, number, &mut rows.near)?;
+        let campaign = rows.ahead.campaign_of(number)?;
+        let Ends { first, second } = rows.ahead.ends_of(number, told);
         Some(CampaignRow {
             campaign,
             first,

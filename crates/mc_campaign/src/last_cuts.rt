@@ -96,5 +96,6 @@ pub(crate) fn tell_campaigns<F: Flash>(
         ahead,
         count: rows.count,
         next: rows.next,
+        near: rows.near,
     })
 }

@@ -5,7 +5,7 @@ use crate::last_cuts::Ends;
 use crate::rounds::{Both, ChildBoot, TwoRounds, go_between};
 use crate::row::end_by;
 use mc_boot::{Outcome, SharedTail};
-use mc_explore::{Ending, Joining};
+use mc_explore::{Ending, Joining, is_same_outcome};
 use mc_flash::Flash;
 use mc_walk::FlashTree;
 use std::alloc::AllocError;
@@ -173,6 +173,7 @@ impl TwoRounds<'_> {
 }
 
 impl Joining for TwoRounds<'_> {
+    ghost use Rattle.std.specs.Prelude.{◌≡◌, true};
     ghost use Rattle.mc_campaign.specs.facts.Tails.{ends_alike};
     ghost use Rattle.mc_campaign.specs.inner.LastCuts.{AreLikePaths, EndSoAt};
 
@@ -197,6 +198,12 @@ impl Joining for TwoRounds<'_> {
         child: &Both,
     ) -> Option<SharedTail> {
         self.tail_of(flash, at, parent, child)
+    }
+
+    fn is_same(one: &Ends, other: &Ends) -> bool
+        ensures { result ≡ true → one.now ≡ other.now }
+    {
+        is_same_outcome(&one.first, &other.first) && is_same_outcome(&one.second, &other.second)
     }
 
     ghost told_alike = { λ t path other ends. ends_alike t path other ends };

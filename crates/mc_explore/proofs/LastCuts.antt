@@ -1,9 +1,10 @@
 -- What is told at the children of one node, and the rows of the nodes whose children lie among them.
-use Rattle.std.proofs.{Common.{ap, inl, inr, subst, sym, ◌∙◌}, lemmas.List.{same_from_push}}
-use Rattle.std.specs.Prelude.{IfSome, List, None, Option, Some, [], ℕ, ◌++◌, ◌∷◌, ◌≡◌, ◌⊎◌}
+use Rattle.std.proofs.{Common.{ap, arith, inl, inr, refl, subst, sym, ◌∙◌}, lemmas.List.{same_from_push}}
+use Rattle.std.specs.{List.{slice_get}, Prelude.{IfSome, List, None, Option, Some, [], length, ℕ, ◌++◌, ◌+◌, ◌-◌, ◌∷◌, ◌≡◌, ◌⊎◌}}
 use Rattle.mc_boot.specs.declared.shared_tail.SharedTail.{SharedTail}
-use Rattle.mc_explore.specs.{declared.at_cuts.AtCuts.{AtCuts}, declared.at_cuts.Joined.{Joined}, facts.Children.{child_here}}
-use Rattle.mc_explore.specs.inner.LastCuts.{AreKept, AreLike, HasTold, IsIndexOf, IsJoined}
+use Rattle.mc_explore.specs.{declared.at_cuts.AtCuts.{AtCuts}, declared.at_cuts.Joined.{Joined}, declared.run.Run.{Run}, facts.Children.{child_here}, inner.Runs.{AreOf, begin_of}}
+use Rattle.mc_explore.proofs.Runs.{of_last, of_more}
+use Rattle.mc_explore.specs.inner.LastCuts.{AreKept, AreLike, AreTold, IsIndexOf, IsJoined, IsNothing, IsOneRunMore, IsToldLast}
 use Rattle.mc_tree.specs.{Tree.{Allowed, landed}, facts.Order.{allowed-last}}
 use Rattle.mc_walk.specs.{TreeModel.{IsChildOf, TreeModel}, Walks.{IsLastStep, IsThere, Walked}, declared.frame.Frame.{Frame}}
 
@@ -18,23 +19,51 @@ module _ {N A T O : Type 0} (k : TreeModel N A T) (IsLike : List ℕ → List �
       subst (λ n. IsTold (of ++ n ∷ []) o) (sym index_is) (alike _ _ o (joined.are_like.like last inside) (subst (λ l. IsTold l o) split told))
 
   -- What is kept stays so, and one more.
-  module _ (old new : AtCuts O) (kept : AreKept k IsLike IsTold old) where
-    pub kept_turned : ((n : ℕ) (o : O) → HasTold new n o → HasTold old n o × (new.parent_path ≡ old.parent_path)) → (n : ℕ) (o : O) → HasTold new n o → IsTold (new.parent_path ++ n ∷ []) o
-    kept_turned turned n o told =
-        let was = turned n o told in
-        subst (λ l. IsTold (l ++ n ∷ []) o) (sym was.1) (kept.at_cuts n o was.0)
+  pub kept_more : ((p q : List ℕ) (o : O) → IsLike p q → IsTold p o → IsTold q o) → (old new : AtCuts O) → AreKept k IsLike IsTold old → (path : List ℕ) (index : ℕ) (told : O)
+      → (AreTold IsTold old → IsTold (old.parent_path ++ index ∷ []) told → AreTold IsTold new) → new.parent_path ≡ old.parent_path → new.joined ≡ old.joined
+      → IsIndexOf old.joined path index → Allowed k.tree k.root path → IsTold path told → AreKept k IsLike IsTold new
+  kept_more alike old new kept path index told more parent joined is allowed here = record {
+    at_cuts = more kept.at_cuts (told_joined alike old.joined old.parent_path path index told kept.joined_is is allowed here);
+    joined_is = rw (sym parent, sym joined) at kept.joined_is;
+  }
 
-    pub kept_more : ((p q : List ℕ) (o : O) → IsLike p q → IsTold p o → IsTold q o) → (path : List ℕ) (index : ℕ) (told : O)
-        → ((n : ℕ) (o : O) → HasTold new n o → HasTold old n o ⊎ ((n ≡ index) × (o ≡ told))) → new.parent_path ≡ old.parent_path → new.joined ≡ old.joined
-        → IsIndexOf old.joined path index → Allowed k.tree k.root path → IsTold path told → AreKept k IsLike IsTold new
-    kept_more alike path index told more parent joined is allowed here = record {
-      at_cuts = λ n o has. subst (λ l. IsTold (l ++ n ∷ []) o) (sym parent) (by n o (more n o has));
-      joined_is = rw (sym parent, sym joined) at kept.joined_is;
-    }
-      where
-        by : (n : ℕ) (o : O) → HasTold old n o ⊎ ((n ≡ index) × (o ≡ told)) → IsTold (old.parent_path ++ n ∷ []) o
-        by n o (inl has) = kept.at_cuts n o has
-        by n o (inr (at, same)) = rw (sym at, sym same) at (told_joined alike old.joined old.parent_path path index told kept.joined_is is allowed here)
+-- What is told of the cuts of which something is kept.
+module _ {O : Type 0} (IsTold : List ℕ → O → Type 0) where
+  -- Of none.
+  pub told_none : (kept : AtCuts O) → IsNothing kept → AreTold IsTold kept
+  told_none kept none = record {
+    split = record {
+      begin = ap (λ (l : List (Run O)). begin_of l kept.count 0) none.0 ∙ none.1;
+      rising = λ r lt. absurd (omega (arith, lt, ap (λ (l : List (Run O)). length l) none.0));
+    };
+    each = λ r i run is le below. absurd (let gone = sym (ap (λ l. slice_get l r) none.0) ∙ is in cc);
+  }
+
+  module _ (old new : AtCuts O) where
+    -- Of the same, or of none.
+    pub told_turned : (new ≡ old) ⊎ IsNothing new → AreTold IsTold old → AreTold IsTold new
+    told_turned (inl same) are = subst (AreTold IsTold) (sym same) are
+    told_turned (inr none) are = told_none new none
+
+    module _ (are : AreTold IsTold old) (told : O) (here : IsTold (old.parent_path ++ (old.first + old.count) ∷ []) told) (first : new.first ≡ old.first) (path : new.parent_path ≡ old.parent_path) where
+      abbrev Of : ℕ → Run O → Type 0
+      Of i run = IsTold (old.parent_path ++ (old.first + i) ∷ []) run.of
+
+      told_there : AreOf Of new.count new.told.items → AreTold IsTold new
+      told_there is = rw (sym first, sym path) at is
+
+      both : (n : ℕ) (l : List (Run O)) → new.count ≡ n → new.told.items ≡ l → AreOf Of n l → AreTold IsTold new
+      both n l count items is = told_there (subst (λ m. AreOf Of m new.told.items) (sym count) (subst (AreOf Of n) (sym items) is))
+
+      -- Of one more in the last run.
+      pub told_last : IsToldLast old told → new.told.items ≡ old.told.items → new.count ≡ old.count + 1 → AreTold IsTold new
+      told_last (run, last, same) items count =
+          both _ _ count items (of_last Of old.count old.told.items are run last (subst (IsTold (old.parent_path ++ (old.first + old.count) ∷ [])) (sym same) here))
+
+      -- Of one more in its own.
+      pub told_more : IsOneRunMore old told new → AreTold IsTold new
+      told_more (inl same) = both _ _ same.1 same.0 are
+      told_more (inr more) = both _ _ more.1 more.0 (of_more Of old.count old.told.items are (record { first = old.count; of = told }) refl here)
 
 -- A walk stands after a step, with that summary.
 module _ {B N A T : Type 0} (k : TreeModel N A T) (w : Walked B) (f : Frame A T) (summary : T) (of path : List ℕ) (last : ℕ) (step : IsLastStep k w f) (there : IsThere k w summary)

@@ -1,56 +1,68 @@
--- Runs of children that have the same totals: where each begins, how they are added to, and what they come to.
+-- Runs of numbers: where each begins, and how they are added to; and of children that have the same totals, what they come to.
 use Rattle.std.proofs.Common.{List, None, Option, Some, [], ap, arith, false, inl, inr, leb, length, length-append, min, option_map, refl, replicate, subst, suc, sym, take, true, zero, ℕ, ◌*◌, ◌++◌, ◌+◌, ◌-◌, ◌<◌, ◌^◌, ◌∙◌, ◌∷◌, ◌≡◌, ◌≤◌, ◌⊎◌}
 use Rattle.std.proofs.{lemmas.Bool.{cases_lt, leb-true, leb-false}, lemmas.List.Sorted.{IsPartitionedBy-leb}}
+use Rattle.std.proofs.lemmas.Option.{same_Some}
 use Rattle.std.specs.{List.Sorted.{IsNonDecreasingBy, IsPartitionedBy, IsPartitionPoint}, List.{slice_get, slice_index_or}, Option.{option_or}}
 use Rattle.mc_boot.specs.{Outcome.{shown}, SharedTail.{index_in_parent}, declared.outcome.Outcome.{Outcome}, declared.shared_tail.SharedTail.{SharedTail}}
 use Rattle.mc_explore.proofs.Counting.{Census, each_more, same_numbers}
-use Rattle.mc_explore.specs.{Census.{cut_number}, declared.table.Run.{Run}, facts.Totals.{same_totals as all_same, totals_weigh}}
-use Rattle.mc_explore.specs.inner.Table.{AreAlike, AreCutOff, AreRuns, AreSums, Begins, IsChild, IsJoined, IsLevel, IsSplit, begin_of, rest_from}
+use Rattle.mc_explore.specs.{Census.{cut_number}, declared.run.Run.{Run}, declared.table.Child.{Child}, facts.Totals.{same_totals as all_same, totals_weigh}}
+use Rattle.mc_explore.specs.inner.{Runs.{AreOf, Begins, IsIn, IsSplit, begin_of}, Table.{AreAlike, AreCutOff, AreRuns, AreSums, IsChild, IsJoined, IsLevel, rest_from}}
 use Rattle.mc_explore.specs.inner.Totals.{Totals, merged, cut_off, no_totals, report_totals, totals}
 use Rattle.mc_tree.specs.{facts.Weighed.{from_alike, from_parts}, inner.Weights.{from, shared_below}}
 
 -- Where runs begin.
 
-begin_end : (runs : List Run) (n : ℕ) → begin_of runs n (length runs) ≡ n
+begin_end : {T : Type 0} (runs : List (Run T)) (n : ℕ) → begin_of runs n (length runs) ≡ n
 begin_end [] n = refl
 begin_end (run ∷ runs) n = begin_end runs n
 
--- Of a run it does not matter how many children there are.
-begin_same : (runs : List Run) (n m r : ℕ) → r < length runs → begin_of runs n r ≡ begin_of runs m r
+-- Of a run it does not matter how many numbers there are.
+begin_same : {T : Type 0} (runs : List (Run T)) (n m r : ℕ) → r < length runs → begin_of runs n r ≡ begin_of runs m r
 begin_same [] n m r lt = absurd (omega (arith, lt))
 begin_same (run ∷ runs) n m zero lt = refl
 begin_same (run ∷ runs) n m (suc r) lt = begin_same runs n m r (omega (arith, lt))
 
 -- One run more.
-begin_more : (runs : List Run) (run : Run) (n r : ℕ) → r ≤ length runs → begin_of (runs ++ run ∷ []) n r ≡ begin_of runs run.first r
+begin_more : {T : Type 0} (runs : List (Run T)) (run : Run T) (n r : ℕ) → r ≤ length runs → begin_of (runs ++ run ∷ []) n r ≡ begin_of runs run.first r
 begin_more [] run n zero le = refl
 begin_more [] run n (suc r) le = absurd (omega (arith, le))
 begin_more (x ∷ runs) run n zero le = refl
 begin_more (x ∷ runs) run n (suc r) le = begin_more runs run n r (omega (arith, le))
 
 -- It is what the list says.
-pub begin_is : (runs : List Run) (n r : ℕ) (run : Run) → slice_get runs r ≡ Some run → begin_of runs n r ≡ run.first
+pub begin_is : {T : Type 0} (runs : List (Run T)) (n r : ℕ) (run : Run T) → slice_get runs r ≡ Some run → begin_of runs n r ≡ run.first
 begin_is [] n r run is = absurd cc
 begin_is (x ∷ runs) n zero run is = cc
 begin_is (x ∷ runs) n (suc r) run is = begin_is runs n r run is
 
-pub begin_past : (runs : List Run) (n r : ℕ) → length runs ≤ r → begin_of runs n r ≡ n
+pub begin_past : {T : Type 0} (runs : List (Run T)) (n r : ℕ) → length runs ≤ r → begin_of runs n r ≡ n
 begin_past [] n r past = refl
 begin_past (x ∷ runs) n zero past = absurd (omega (arith, past))
 begin_past (x ∷ runs) n (suc r) past = begin_past runs n r (omega (arith, past))
 
 -- The first numbers of the runs.
 
-some_run : (runs : List Run) → 1 ≤ length runs → Run
+some_run : {T : Type 0} (runs : List (Run T)) → 1 ≤ length runs → Run T
 some_run [] some = absurd (omega (arith, some))
 some_run (run ∷ runs) some = run
 
-pub first_is : (runs : List Run) (n r : ℕ) (d : Run) → r < length runs → (slice_index_or runs r d).first ≡ begin_of runs n r
+pub first_is : {T : Type 0} (runs : List (Run T)) (n r : ℕ) (d : Run T) → r < length runs → (slice_index_or runs r d).first ≡ begin_of runs n r
 first_is [] n r d lt = absurd (omega (arith, lt))
 first_is (run ∷ runs) n zero d lt = refl
 first_is (run ∷ runs) n (suc r) d lt = first_is runs n r d (omega (arith, lt))
 
-module _ (runs : List Run) (n : ℕ) (split : IsSplit runs n) where
+-- A run that is there.
+pub run_at : {T : Type 0} (runs : List (Run T)) (r : ℕ) → r < length runs → (run : Run T) × (slice_get runs r ≡ Some run)
+run_at [] r lt = absurd (omega (arith, lt))
+run_at (run ∷ runs) zero lt = (run, refl)
+run_at (run ∷ runs) (suc r) lt = run_at runs r (omega (arith, lt))
+
+within_there : {T : Type 0} (runs : List (Run T)) (r : ℕ) (run : Run T) → slice_get runs r ≡ Some run → r < length runs
+within_there [] r run is = absurd cc
+within_there (x ∷ runs) zero run is = omega arith
+within_there (x ∷ runs) (suc r) run is = omega (arith, within_there runs r run is)
+
+module _ {T : Type 0} (runs : List (Run T)) (n : ℕ) (split : IsSplit runs n) where
   -- They rise.
   rises : (k r : ℕ) → r + k ≤ length runs → begin_of runs n r ≤ begin_of runs n (r + k)
   rises zero r le = let e : r + 0 ≡ r = omega arith in subst (λ s. begin_of runs n r ≤ begin_of runs n s) (sym e) (omega arith)
@@ -68,18 +80,18 @@ module _ (runs : List Run) (n : ℕ) (split : IsSplit runs n) where
   pub begin_within : (r : ℕ) → r ≤ length runs → begin_of runs n r ≤ n
   begin_within r le = subst (λ m. begin_of runs n r ≤ m) (begin_end runs n) (begin_at_most r (length runs) le (omega arith))
 
-  ascend : IsNonDecreasingBy (λ (run : Run). run.first) runs
+  ascend : IsNonDecreasingBy (λ (run : Run T). run.first) runs
   ascend i j d le lt =
       let a = first_is runs n i d (omega (arith, le, lt)) in
       let b = first_is runs n j d lt in
       omega (arith, begin_at_most i j le (omega (arith, lt)), a, b)
 
-  pub parted : (number : ℕ) → IsPartitionedBy (λ (run : Run). leb run.first number) runs
-  parted number = IsPartitionedBy-leb (λ (run : Run). run.first) runs number ascend
+  pub parted : (number : ℕ) → IsPartitionedBy (λ (run : Run T). leb run.first number) runs
+  parted number = IsPartitionedBy-leb (λ (run : Run T). run.first) runs number ascend
 
   -- The last run that begins at a number or before.
   pub last_begun : (number after : ℕ) → 1 ≤ length runs → number ≤ n → after ≤ length runs
-      → IsPartitionPoint (λ (run : Run). leb run.first number ≡ true) (λ (run : Run). leb run.first number ≡ false) runs after
+      → IsPartitionPoint (λ (run : Run T). leb run.first number ≡ true) (λ (run : Run T). leb run.first number ≡ false) runs after
       → Begins runs n number (after - 1)
   last_begun number zero some le within point =
       let d = some_run runs some in
@@ -115,21 +127,20 @@ module _ (runs : List Run) (n : ℕ) (split : IsSplit runs n) where
       inside below (inl lt) = later lt
       inside below (inr past) = omega (arith, ends past, below)
 
-some_runs : (runs : List Run) → (runs ≡ [] → ⊥) → 1 ≤ length runs
-some_runs [] some = absurd (some refl)
-some_runs (run ∷ runs) some = omega arith
+  -- There is some run where there is some number.
+  pub some_there : (number : ℕ) → number < n → 1 ≤ length runs
+  some_there number lt = elim (cases_lt 0 (length runs)) [
+    | inl some ↦ omega (arith, some)
+    | inr none ↦ absurd (omega (arith, lt, split.begin, begin_past runs n 0 none))
+  ]
 
-last_run : (runs : List Run) → 1 ≤ length runs → (run : Run) × (slice_get runs (length runs - 1) ≡ Some run)
-last_run [] some = absurd (omega (arith, some))
-last_run (run ∷ []) some = (run, refl)
-last_run (run ∷ next ∷ runs) some =
-    let r = last_run (next ∷ runs) (omega arith) in
-    let at : length (run ∷ next ∷ runs) - 1 ≡ suc (length (next ∷ runs) - 1) = omega arith in
-    (r.0, ap (slice_get (run ∷ next ∷ runs)) at ∙ r.1)
+  -- A number is in the run that is found for it.
+  pub is_in : (number r : ℕ) (run : Run T) → number < n → Begins runs n number r → slice_get runs r ≡ Some run → IsIn runs n number run.of
+  is_in number r run lt at is = record { run = r; first = run.first; there = is; from = at.first; below = at.inside lt }
 
--- One child more: in the last run, or in one of its own.
-module _ (runs : List Run) (number : ℕ) (split : IsSplit runs number) where
-  -- Where the runs end of so many children, and of one more.
+-- One number more: in the last run, or in one of its own.
+module _ {T : Type 0} (runs : List (Run T)) (number : ℕ) (split : IsSplit runs number) where
+  -- Where the runs end of so many numbers, and of one more.
   same_begin : (r : ℕ) → r < length runs → begin_of runs (number + 1) r ≡ begin_of runs number r
   same_begin r lt = begin_same runs (number + 1) number r lt
 
@@ -146,8 +157,8 @@ module _ (runs : List Run) (number : ℕ) (split : IsSplit runs number) where
           let end = ap (begin_of runs (number + 1)) e ∙ begin_end runs (number + 1) in
           omega (arith, same_begin r lt, end, begin_within runs number split r (omega (arith, lt)))
 
-  module _ (run : Run) (first : run.first ≡ number) where
-    abbrev more : List Run
+  module _ (run : Run T) (first : run.first ≡ number) where
+    abbrev more : List (Run T)
     more = runs ++ run ∷ []
 
     begin_before : (r : ℕ) → r ≤ length runs → begin_of more (number + 1) r ≡ begin_of runs number r
@@ -169,6 +180,54 @@ module _ (runs : List Run) (number : ℕ) (split : IsSplit runs number) where
             let here : begin_of more (number + 1) r ≡ number = ap (begin_of more (number + 1)) e ∙ begin_before (length runs) (omega arith) ∙ begin_end runs number in
             let after = ap (λ k. begin_of more (number + 1) (suc k)) e ∙ begin_after in
             omega (arith, here, after)
+
+-- What holds of each number holds of one more.
+module _ {T : Type 0} (P : ℕ → Run T → Type 0) (number : ℕ) (runs : List (Run T)) (are : AreOf P number runs) where
+  -- In the last run.
+  pub of_last : (run : Run T) → slice_get runs (length runs - 1) ≡ Some run → P number run → AreOf P (number + 1) runs
+  of_last run last here = record {
+    split = last_split runs number are.split (omega (arith, within_there runs (length runs - 1) run last));
+    each = λ r i x is le below. let lt = within_there runs r x is in by r i x is lt (cases_lt (suc r) (length runs)) le below;
+  }
+    where
+      by : (r i : ℕ) (x : Run T) → slice_get runs r ≡ Some x → r < length runs → (suc r < length runs) ⊎ (length runs ≤ suc r) → begin_of runs (number + 1) r ≤ i
+          → i < begin_of runs (number + 1) (suc r) → P i x
+      by r i x is lt (inl nearer) le below =
+          are.each r i x is (omega (arith, same_begin runs number are.split r lt, le)) (omega (arith, same_begin runs number are.split (suc r) nearer, below))
+      by r i x is lt (inr past) le below =
+          let e : suc r ≡ length runs = omega (arith, past, lt) in
+          let end = ap (begin_of runs (number + 1)) e ∙ begin_end runs (number + 1) in
+          let old_end = ap (begin_of runs number) e ∙ begin_end runs number in
+          let at : length runs - 1 ≡ r = omega (arith, e) in
+          let x_is : x ≡ run = same_Some x run (sym is ∙ ap (slice_get runs) (sym at) ∙ last) in
+          elim (cases_lt i number) [
+            | inl before ↦ are.each r i x is (omega (arith, same_begin runs number are.split r lt, le)) (omega (arith, old_end, before))
+            | inr after ↦ let i_is : number ≡ i = omega (arith, after, below, end) in subst (λ j. P j x) i_is (subst (P number) (sym x_is) here)
+          ]
+
+  -- In a run of its own.
+  pub of_more : (run : Run T) → run.first ≡ number → P number run → AreOf P (number + 1) (runs ++ run ∷ [])
+  of_more run first here = record {
+    split = more_split runs number are.split run first;
+    each = λ r i x is le below. by r i x is (cases_lt r (length runs)) le below;
+  }
+    where
+      before : (r : ℕ) (x : Run T) → slice_get runs r ≡ Some x → (i : ℕ) → begin_of (runs ++ run ∷ []) (number + 1) r ≤ i → i < begin_of (runs ++ run ∷ []) (number + 1) (suc r) → P i x
+      before r x is i le below =
+          let lt = within_there runs r x is in
+          are.each r i x is (omega (arith, begin_before runs number are.split run first r (omega (arith, lt)), le))
+          (omega (arith, begin_before runs number are.split run first (suc r) (omega (arith, lt)), below))
+
+      own : (i : ℕ) → begin_of (runs ++ run ∷ []) (number + 1) (length runs) ≤ i → i < begin_of (runs ++ run ∷ []) (number + 1) (suc (length runs)) → P i run
+      own i le below =
+          let at = begin_before runs number are.split run first (length runs) (omega arith) ∙ begin_end runs number in
+          let i_is : number ≡ i = omega (arith, at, begin_after runs number are.split run first, le, below) in
+          subst (λ j. P j run) i_is here
+
+      by : (r i : ℕ) (x : Run T) → slice_get (runs ++ run ∷ []) r ≡ Some x → (r < length runs) ⊎ (length runs ≤ r) → begin_of (runs ++ run ∷ []) (number + 1) r ≤ i
+          → i < begin_of (runs ++ run ∷ []) (number + 1) (suc r) → P i x
+      by r i x is at le below =
+          each_more (λ q (y : Run T). (j : ℕ) → begin_of (runs ++ run ∷ []) (number + 1) q ≤ j → j < begin_of (runs ++ run ∷ []) (number + 1) (suc q) → P j y) runs run before own r x is i le below
 
 -- What runs come to.
 module _ (under : ℕ → ℕ → Totals) (n most : ℕ) (none : (i : ℕ) → under 0 i ≡ no_totals) where
@@ -193,69 +252,32 @@ module _ (under : ℕ → ℕ → Totals) (n most : ℕ) (none : (i : ℕ) → u
       ∙ ap (λ a. merged a (shared_below totals (under d) n x.kept x.erases (index_in_parent x))) ends
       ∙ sym (one.weighs d)
 
-  module _ (number : ℕ) (runs : List Run) (are : AreRuns under n most number runs) where
-    -- A child more that has the totals of the last run.
-    pub last_more : (run : Run) → slice_get runs (length runs - 1) ≡ Some run → ((d : ℕ) → under d number ≡ under d run.first) → AreRuns under n most (number + 1) runs
-    last_more run last same = record {
-      split = last_split runs number are.split (not_none runs last);
-      child = are.child;
-      alike = λ r i lt le below d. by r lt (cases_lt (suc r) (length runs)) i le below d;
-    }
-      where
-        not_none : (xs : List Run) → slice_get xs (length xs - 1) ≡ Some run → 1 ≤ length xs
-        not_none [] is = absurd cc
-        not_none (x ∷ xs) is = omega arith
+  module _ (number : ℕ) (runs : List (Run Child)) (are : AreRuns under n most number runs) where
+    abbrev IsLike : ℕ → Run Child → Type 0
+    IsLike i run = (d : ℕ) → under d i ≡ under d run.first
 
-        by : (r : ℕ) → r < length runs → (suc r < length runs) ⊎ (length runs ≤ suc r) → (i : ℕ) → begin_of runs (number + 1) r ≤ i → i < begin_of runs (number + 1) (suc r)
-            → (d : ℕ) → under d i ≡ under d (begin_of runs (number + 1) r)
-        by r lt (inl nearer) i le below d =
-            let here = same_begin runs number are.split r lt in
-            let next = same_begin runs number are.split (suc r) nearer in
-            are.alike r i lt (omega (arith, here, le)) (omega (arith, next, below)) d ∙ ap (under d) (sym here)
-        by r lt (inr past) i le below d =
-            let e : suc r ≡ length runs = omega (arith, past, lt) in
-            let here = same_begin runs number are.split r lt in
-            let end = ap (begin_of runs (number + 1)) e ∙ begin_end runs (number + 1) in
-            let old_end = ap (begin_of runs number) e ∙ begin_end runs number in
-            let at : length runs - 1 ≡ r = omega (arith, e) in
-            let begins : begin_of runs number r ≡ run.first = begin_is runs number r run (ap (slice_get runs) (sym at) ∙ last) in
-            elim (cases_lt i number) [
-              | inl before ↦ are.alike r i lt (omega (arith, here, le)) (omega (arith, old_end, before)) d ∙ ap (under d) (sym here)
-              | inr after ↦ let e : i ≡ number = omega (arith, after, below, end) in ap (under d) e ∙ same d ∙ ap (under d) (sym (here ∙ begins))
-            ]
+    -- A child more that has the totals of the last run.
+    pub last_more : (run : Run Child) → slice_get runs (length runs - 1) ≡ Some run → ((d : ℕ) → under d number ≡ under d run.first) → AreRuns under n most (number + 1) runs
+    last_more run last same = record { alike = of_last IsLike number runs are.alike run last same; child = are.child }
 
     -- A child more that has the totals of the one before.
     pub twin_more : 1 ≤ number → ((d : ℕ) → under d number ≡ under d (number - 1)) → AreRuns under n most (number + 1) runs
     twin_more some same =
-        let nonempty = some_runs runs (λ none. omega (arith, some, are.split.begin, ap (λ (l : List Run). begin_of l number 0) none)) in
-        let last = last_run runs nonempty in
+        let split = are.alike.split in
+        let nonempty = some_there runs number split 0 (omega (arith, some)) in
         let r : ℕ = length runs - 1 in
+        let last = run_at runs r (omega (arith, nonempty)) in
         let next : suc r ≡ length runs = omega (arith, nonempty) in
-        let rising = are.split.rising r (omega (arith, nonempty)) in
+        let rising = split.rising r (omega (arith, nonempty)) in
         let end = ap (begin_of runs number) next ∙ begin_end runs number in
-        let begins = begin_is runs number r last.0 last.1 in
-        last_more last.0 last.1 (λ d. same d ∙ are.alike r (number - 1) (omega (arith, nonempty)) (omega (arith, rising, end)) (omega (arith, end, some)) d ∙ ap (under d) begins)
+        last_more last.0 last.1 (λ d. same d ∙ are.alike.each r (number - 1) last.0 last.1 (omega (arith, rising, end)) (omega (arith, end, some)) d)
 
     -- A child more that makes a run of its own.
-    pub run_more : (run : Run) → run.first ≡ number → IsChild under n most number run.outcome run.below → AreRuns under n most (number + 1) (runs ++ run ∷ [])
+    pub run_more : (run : Run Child) → run.first ≡ number → IsChild under n most number run.of → AreRuns under n most (number + 1) (runs ++ run ∷ [])
     run_more run first child = record {
-      split = more_split runs number are.split run first;
-      child = each_more (λ r (x : Run). IsChild under n most x.first x.outcome x.below) runs run are.child (subst (λ c. IsChild under n most c run.outcome run.below) (sym first) child);
-      alike = λ r i lt le below d. by r (cases_lt r (length runs)) lt i le below d;
+      alike = of_more IsLike number runs are.alike run first (λ d. ap (under d) (sym first));
+      child = each_more (λ r (x : Run Child). IsChild under n most x.first x.of) runs run are.child (subst (λ c. IsChild under n most c run.of) (sym first) child);
     }
-      where
-        by : (r : ℕ) → (r < length runs) ⊎ (length runs ≤ r) → r < length (runs ++ run ∷ []) → (i : ℕ) → begin_of (runs ++ run ∷ []) (number + 1) r ≤ i
-            → i < begin_of (runs ++ run ∷ []) (number + 1) (suc r) → (d : ℕ) → under d i ≡ under d (begin_of (runs ++ run ∷ []) (number + 1) r)
-        by r (inl before) lt i le below d =
-            let here = begin_before runs number are.split run first r (omega (arith, before)) in
-            let next = begin_before runs number are.split run first (suc r) (omega (arith, before)) in
-            are.alike r i before (omega (arith, here, le)) (omega (arith, next, below)) d ∙ ap (under d) (sym here)
-        by r (inr past) lt i le below d =
-            let e : r ≡ length runs = omega (arith, past, lt, length-append runs (run ∷ [])) in
-            let after = ap (λ k. begin_of (runs ++ run ∷ []) (number + 1) (suc k)) e ∙ begin_after runs number are.split run first in
-            let here : begin_of (runs ++ run ∷ []) (number + 1) r ≡ number
-            = ap (begin_of (runs ++ run ∷ []) (number + 1)) e ∙ begin_before runs number are.split run first (length runs) (omega arith) ∙ begin_end runs number in
-            let is : i ≡ begin_of (runs ++ run ∷ []) (number + 1) r = omega (arith, here, after, le, below) in ap (under d) is
 
 -- So many children from one on that have the same totals.
 pub repeated_is : (a : Totals) (k i : ℕ) → from totals (λ _. a) (suc k) i ≡ record {
@@ -321,23 +343,29 @@ cut_repeated zero i count c p r a c_is p_is some many = absurd (omega (arith, so
 cut_repeated (suc k) i count c p r a c_is p_is some many = repeated_census k i c p a c_is p_is count r many
 
 -- For one bound, the censuses of children by those of the runs.
-module _ (under : ℕ → Totals) (n : ℕ) (runs : List Run) (level : List Census) (is : IsLevel under n runs level) where
+module _ (under : ℕ → Totals) (n : ℕ) (runs : List (Run Child)) (level : List Census) (is : IsLevel under n runs level) where
+  -- The children of a run have the totals of its first.
+  like : (r : ℕ) → r < length runs → (i : ℕ) → begin_of runs n r ≤ i → i < begin_of runs n (suc r) → under i ≡ under (begin_of runs n r)
+  like r lt i le below =
+      let run = run_at runs r lt in
+      is.alike.each r i run.0 run.1 le below ∙ ap under (sym (begin_is runs n r run.0 run.1))
+
   -- That of one child.
   pub at_child : (number r : ℕ) (c : Census) → number < n → Begins runs n number r → ((u : ℕ → Totals) → AreCutOff u level → r < length level → c ≡ cut_off (u r)) → c ≡ cut_off (under number)
   at_child number r c lt begins there =
       there (λ r. under (begin_of runs n r)) is.cut_offs (omega (arith, begins.some, is.many))
-      ∙ ap cut_off (sym (is.alike r number begins.some begins.first (begins.inside lt)))
+      ∙ ap cut_off (sym (like r begins.some number begins.first (begins.inside lt)))
 
   -- The sum of all from one on: that of those in its run, and that of the later runs.
   pub rest_parts : (number r : ℕ) → r < length runs → begin_of runs n r ≤ number → number ≤ begin_of runs n (suc r)
       → merged (from totals (λ _. under (begin_of runs n r)) (begin_of runs n (suc r) - number) number) (rest_from under n (begin_of runs n (suc r))) ≡ rest_from under n number
   rest_parts number r some first le =
       let end : ℕ = begin_of runs n (suc r) in
-      let within = begin_within runs n is.split (suc r) (omega (arith, some)) in
+      let within = begin_within runs n is.alike.split (suc r) (omega (arith, some)) in
       let count : (end - number) + (n - end) ≡ n - number = omega (arith, le, within) in
       let last : number + (end - number) ≡ end = omega (arith, le) in
       let same = from_alike totals totals_weigh (λ _. under (begin_of runs n r)) under (end - number) number
-      (λ x low lt. sym (is.alike r x some (omega (arith, first, low)) (omega (arith, lt, le)))) in
+      (λ x low lt. sym (like r some x (omega (arith, first, low)) (omega (arith, lt, le)))) in
       ap (λ a. merged a (rest_from under n end)) same
       ∙ ap (λ x. merged (from totals under (end - number) number) (from totals under (n - end) x)) (sym last)
       ∙ sym (from_parts totals totals_weigh under (end - number) (n - end) number)
@@ -357,7 +385,7 @@ module _ (under : ℕ → Totals) (n : ℕ) (runs : List Run) (level : List Cens
       let all : n - 0 ≡ n = omega arith in
       last (λ k. rest_from under n (begin_of runs n (length runs - k))) are.1 (omega (arith, are.0))
       ∙ ap (λ r. cut_off (rest_from under n (begin_of runs n r))) e
-      ∙ ap (λ i. cut_off (rest_from under n i)) is.split.begin
+      ∙ ap (λ i. cut_off (rest_from under n i)) is.alike.split.begin
       ∙ ap (λ k. cut_off (from totals under k 0)) all
 
 -- Censuses of no paths.

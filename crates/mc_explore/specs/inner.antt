@@ -2,6 +2,7 @@
 pub mod OneRound
 pub mod LastCuts
 pub mod Totals
+pub mod Runs
 pub mod Table
 pub mod View
 pub mod Exploring

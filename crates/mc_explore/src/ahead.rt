@@ -11,6 +11,8 @@ pub struct RowsAhead<A> {
     pub count: u32,
     /// The next child.
     pub next: u32,
+    /// Where the row of the child before was found, which is the first place to look at.
+    pub near: usize,
 }
 
 /// Those where one is still to come.

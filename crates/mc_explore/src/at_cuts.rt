@@ -1,15 +1,17 @@
 //! What was told at the cuts of one boot.
-ghost use Rattle.std.specs.Prelude.{◌≡◌, ℕ, ◌+◌, ◌<◌, ◌≤◌, ◌^◌, ◌⊎◌, [], length, slice_get, option_map, None, IfOk, IfSome, true};
+ghost use Rattle.std.specs.Prelude.{◌≡◌, ℕ, ◌+◌, ◌<◌, ◌≤◌, ◌^◌, ◌⊎◌, length, None, IfOk, IfSome, IsSomeAnd, true};
 ghost use Rattle.mc_boot.specs.SharedTail.{index_in_parent};
-ghost use Rattle.mc_explore.specs.inner.LastCuts.{HasTold, IsIndexOf};
+ghost use Rattle.mc_explore.specs.inner.LastCuts.{IsIndexOf, IsNothing, IsOneRunMore};
+ghost use Rattle.mc_explore.specs.inner.Runs.{IsIn, IsSplit};
 
+use crate::run::{Run, run_near};
 use mc_boot::SharedTail;
 use mc_flash::most_operations;
 use mc_start::{Schedule, Start};
 use std::alloc::{AllocError, Global};
 
-/// For how many cuts what is told is kept, at the most.
-const MOST_KEPT: u64 = 0x1_0000;
+/// In how many runs what is told is kept, at the most. A swap has 3,072 transfers at the most, and the same is told within one.
+const MOST_RUNS: u64 = 4096;
 
 /// More operations than a boot makes.
 pub(crate) const MOST_COUNT: u32 = 0x8000_0000;
@@ -30,20 +32,24 @@ pub struct AtCuts<O: Copy> {
     pub parent_path: Schedule,
     /// The first of those cuts.
     pub first: u32,
-    pub told: Vec<O>,
+    /// How many they are.
+    pub count: u32,
+    /// What was told of them, by runs of cuts of which the same was told; the first cut has the number 0 there.
+    pub told: Vec<Run<O>>,
     /// The boot after one of its cuts whose rows come from the flash: what they tell is kept.
     pub joined: Option<Joined>,
 }
 
 impl<O: Copy> AtCuts<O> {
-    // Nothing yet, with room for so much.
+    // Nothing yet, with room for so many runs.
     fn new(alloc: Global, room: usize) -> Result<AtCuts<O>, AllocError>
-        ensures none { IfOk result (λ none. none.told.items ≡ []) }
+        ensures none { IfOk result IsNothing }
         ensures joined { IfOk result (λ none. none.joined ≡ None) }
     {
         Ok(AtCuts {
             parent_path: Schedule::new(),
             first: 0,
+            count: 0,
             told: Vec::with_capacity(alloc, room)?,
             joined: None,
         })
@@ -56,49 +62,93 @@ impl<O: Copy> AtCuts<O> {
     ///
     /// Where the allocation failed.
     pub fn of(alloc: Global, start: &Start, boots: u64, bound: u8) -> Result<AtCuts<O>, AllocError>
-        ensures none { IfOk result (λ none. none.told.items ≡ []) }
+        ensures none { IfOk result IsNothing }
         ensures joined { IfOk result (λ none. none.joined ≡ None) }
     {
         let most = match bound {
             0 | 1 => 0,
-            _ => most_operations(start.layout(), start.rules().grain).saturating_mul(boots),
+            _ => most_operations(start.layout(), start.rules().grain).min(MOST_RUNS),
         };
-        AtCuts::new(alloc, most.min(MOST_KEPT) as usize)
+        AtCuts::new(alloc, most.saturating_mul(boots) as usize)
     }
 
-    /// What was told at the cut of its boot where that of the other boot finds its flash, if it is kept.
+    /// What was told at the cut of its boot where that of the other boot finds its flash, if it is kept. It is looked for first in the
+    /// run where the last one was found, and that run is kept in `near`.
     #[inline]
-    pub fn find(&self, shared_tail: &SharedTail, number: u32) -> Option<&O>
+    pub fn find(&self, shared_tail: &SharedTail, number: u32, near: &mut usize) -> Option<&O>
         requires { number < 2 ^ 31 }
         ensures { (i : ℕ) → index_in_parent shared_tail.now number ≡ self.now.first + i
-            → option_map (λ o. o.now) result ≡ slice_get self.now.told.items i }
+            → IsSplit self.now.told.items self.now.count → i < self.now.count
+            → IsSomeAnd result (λ o. IsIn self.now.told.items self.now.count i o.now) }
     {
         let index = shared_tail.index_in_parent(number).checked_sub(self.first)?;
-        self.told.get(index as usize)
+        *near = run_near(&self.told, self.count, index, *near);
+        let run = self.told.get(*near)?;
+        Some(&run.of)
     }
 
     /// Whether all is kept that was told at those cuts of its boot, with so many operations, to which another boot leads.
     pub fn has_all(&self, shared_tail: &SharedTail, whole: u32) -> bool
-        ensures whole { result ≡ true → self.now.first + length self.now.told.items ≡ whole }
+        ensures whole { result ≡ true → self.now.first + self.now.count ≡ whole }
         ensures low { result ≡ true → (i : ℕ) → self.now.first
             ≤ index_in_parent shared_tail.now i }
     {
         let after_erases = shared_tail.kept() + shared_tail.erases();
         self.first <= shared_tail.index_in_parent(0).min(after_erases)
-            && self.first as usize + self.told.len() == whole as usize
+            && self.end() == u64::from(whole)
+    }
+
+    /// The cut after the last of those cuts.
+    pub fn end(&self) -> u64
+        ensures { result ≡ self.now.first + self.now.count }
+    {
+        u64::from(self.first) + u64::from(self.count)
+    }
+
+    /// Whether something is kept of that cut.
+    pub fn has(&self, index: u32) -> bool {
+        self.first <= index && u64::from(index) < self.end()
     }
 
     /// Keeps what is told of the boot after that path, and no more what was told of another.
     pub fn turn_to(&mut self, parent_path: &[u32])
         requires { length parent_path.now ≤ 16 }
         ensures path { self.new.parent_path ≡ parent_path.now }
-        ensures kept { (n : ℕ) (o : O) → HasTold self.new n o → HasTold self.old n o
-            × (self.new.parent_path ≡ self.old.parent_path) }
+        ensures kept { (self.new ≡ self.old) ⊎ IsNothing self.new }
         ensures joined { self.new.joined ≡ self.old.joined }
     {
         if self.parent_path.cuts() != parent_path {
             self.parent_path = Schedule::of(parent_path);
-            self.told.clear();
+            self.clear_at(0);
+        }
+    }
+
+    /// Keeps nothing any more, and goes on at that cut.
+    pub fn clear_at(&mut self, first: u32)
+        ensures none { IsNothing self.new }
+        ensures first { self.new.first ≡ first }
+        ensures path { self.new.parent_path ≡ self.old.parent_path }
+        ensures joined { self.new.joined ≡ self.old.joined }
+    {
+        self.first = first;
+        self.count = 0;
+        self.told.clear();
+    }
+
+    /// Begins a run of the next cut, if there is room for it.
+    pub fn begin_run(&mut self, told: O)
+        requires { self.old.count < 2 ^ 31 }
+        ensures told { IsOneRunMore self.old told self.new }
+        ensures first { self.new.first ≡ self.old.first }
+        ensures path { self.new.parent_path ≡ self.old.parent_path }
+        ensures joined { self.new.joined ≡ self.old.joined }
+    {
+        if self.told.len() < self.told.capacity() {
+            self.told.push_reserved(Run {
+                first: self.count,
+                of: told,
+            });
+            self.count += 1;
         }
     }
 
@@ -112,26 +162,5 @@ impl<O: Copy> AtCuts<O> {
             return None;
         }
         Some(joined.shared_tail.index_in_parent(*last))
-    }
-
-    /// Keeps what is told at a cut of its boot: with what is kept where it comes next, and else by itself.
-    pub fn put(&mut self, index: u32, told: O)
-        ensures kept { (n : ℕ) (o : O) → HasTold self.new n o → HasTold self.old n o
-            ⊎ ((n ≡ index) × (o ≡ told)) }
-        ensures path { self.new.parent_path ≡ self.old.parent_path }
-        ensures joined { self.new.joined ≡ self.old.joined }
-    {
-        let next = self.first as usize + self.told.len();
-        if self.first <= index && (index as usize) < next {
-            return;
-        }
-        let is_full = self.told.len() == self.told.capacity();
-        if is_full || index as usize != next {
-            self.first = index;
-            self.told.clear();
-        }
-        if self.told.len() < self.told.capacity() {
-            self.told.push_reserved(told);
-        }
     }
 }

@@ -98,13 +98,10 @@ impl<F: Flash + Drop, X: Subject> Rows<F, X> {
             self.old (option_map X.shown found) self.new) }
         ensures costs { CostsRow X.model self.old result self.new }
     {
-        if let Some(rows) = still_to_come(self.ahead) {
+        if let Some(mut rows) = still_to_come(self.ahead) {
             let flash_tree = self.tour.walk().flash_tree();
-            let row = flash_tree.row_ahead(&self.kept, &self.path, &rows);
-            self.ahead = Some(RowsAhead {
-                next: rows.next + 1,
-                ..rows
-            });
+            let row = flash_tree.row_ahead(&self.kept, &self.path, &mut rows);
+            self.ahead = Some(rows);
             return Ok(row);
         }
         if !next_node(&mut self.tour, self.ahead.is_some())? {

@@ -2,7 +2,7 @@
 use crate::ahead::RowsAhead;
 use crate::at_cuts::AtCuts;
 use crate::countable::{Countable, Ending};
-use crate::joining::{Joining, tell};
+use crate::joining::{Joining, is_same_outcome, tell};
 use crate::labels::Labels;
 use crate::one_round::{OneRound, Summary};
 use crate::row::Row;
@@ -108,11 +108,13 @@ impl Subject for OneRound<'_> {
         self,
         kept: &AtCuts<Outcome>,
         path: &Schedule,
-        rows: &RowsAhead<SharedTail>,
+        rows: &mut RowsAhead<SharedTail>,
     ) -> Option<Row> {
-        let outcome = kept.find(&rows.ahead, rows.next)?;
+        let number = rows.next;
+        rows.next += 1;
+        let outcome = kept.find(&rows.ahead, number, &mut rows.near)?;
         let mut schedule = *path;
-        schedule.push(rows.next);
+        schedule.push(number);
         Some(Row {
             schedule,
             outcome: *outcome,
@@ -207,6 +209,7 @@ impl Subject for OneRound<'_> {
 }
 
 impl Joining for OneRound<'_> {
+    ghost use Rattle.std.specs.Prelude.{◌≡◌, true};
     ghost use Rattle.mc_explore.specs.inner.LastCuts.{AreSame, HasOutcomeAt};
     ghost use Rattle.mc_explore.specs.inner.OneRound.{begins};
     ghost use Rattle.mc_explore.specs.facts.Tails.{same_outcome};
@@ -229,6 +232,12 @@ impl Joining for OneRound<'_> {
         child: &Summary,
     ) -> Option<SharedTail> {
         SharedTail::find(flash, at, &child.boot)
+    }
+
+    fn is_same(one: &Outcome, other: &Outcome) -> bool
+        ensures { result ≡ true → one.now ≡ other.now }
+    {
+        is_same_outcome(one, other)
     }
 
     ghost told_alike = { λ o. same_outcome (begins o) };

@@ -13,7 +13,7 @@ use crate::error::ExploreError;
 use crate::expectation::Expectation;
 use crate::rights::RightsOf;
 use crate::subject::OfStart;
-use crate::table::{Below, add_child, census_at, column_of};
+use crate::table::{Below, Child, add_child, census_at, column_of};
 use crate::tree_loading::load_walk;
 use mc_boot::{Outcome, SharedTail};
 use mc_flash::Flash;
@@ -134,7 +134,7 @@ fn column<F: Flash, X: Ending>(
             None => Below::Apart(column(alloc, walk, bound - 1, expectation)?),
         };
         let outcome = expectation.judge(&end.outcome);
-        add_child(&mut runs, number, outcome, below)?;
+        add_child(&mut runs, number, Child { outcome, below })?;
     }
     Ok(column_of(alloc, own, &runs, count, bound)?)
 }

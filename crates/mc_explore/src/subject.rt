@@ -32,7 +32,7 @@ pub trait Subject: FlashTree {
     ghost use Rattle.mc_explore.specs.Pages.{IsRest};
     ghost use Rattle.mc_explore.specs.Subject as subjects;
     ghost use Rattle.mc_explore.specs.declared.subject.Fields.{Fields as FieldsOf};
-    ghost use Rattle.mc_explore.specs.inner.Exploring.{FollowsKey, NoAllocationFailed, IsCheapFor, AreKeys, LoadsFor, AreFresh};
+    ghost use Rattle.mc_explore.specs.inner.Exploring.{FollowsKey, NoAllocationFailed, IsCheapFor, AreKeys, LoadsFor, AreFresh, one_taken};
     ghost use Rattle.mc_explore.specs.Subject.{IsRowAt, rows_of, State};
 
     ghost Shown: { Type 0 };
@@ -134,21 +134,22 @@ pub trait Subject: FlashTree {
         ensures ahead { IfSome result (AreFresh Self.model holds is_ahead walk.now kept.new
             path.now) };
 
-    /// The next row of those, which is there wherever rows are found ahead.
+    /// The next row of those, which is there wherever rows are found ahead; then one less is to come.
     fn row_ahead(
         self,
         kept: &Self::Kept,
         path: &Schedule,
-        rows: &RowsAhead<Self::Ahead>,
+        rows: &mut RowsAhead<Self::Ahead>,
     ) -> Option<Self::Row>
         requires short { length path.now < 16 }
-        requires some { rows.now.next < rows.now.count }
-        requires small { rows.now.count ≤ 2 ^ 31 }
-        ensures { holds self kept.now
-            → is_ahead self kept.now path.now rows.now.ahead rows.now.count
-            → Allowed (Self.model self).tree (Self.model self).root (path.now ++ rows.now.next ∷ [])
+        requires some { rows.old.next < rows.old.count }
+        requires small { rows.old.count ≤ 2 ^ 31 }
+        ensures row { holds self kept.now
+            → is_ahead self kept.now path.now rows.old.ahead rows.old.count
+            → Allowed (Self.model self).tree (Self.model self).root (path.now ++ rows.old.next ∷ [])
             → IsSomeAnd result (λ row. IsRowAt subject begins choice key_of self
-            (path.now ++ rows.now.next ∷ []) (shown row)) };
+            (path.now ++ rows.old.next ∷ []) (shown row)) }
+        ensures next { rows.new ≡ one_taken rows.old rows.new.near };
 
     /// The key of a row.
     fn key(row: &Self::Row) -> Self::Key

@@ -1,13 +1,14 @@
 //! The censuses of the children of one node, for one bound after another.
-ghost use Rattle.std.specs.Prelude.{◌≡◌, ℕ, suc, ◌+◌, ◌<◌, ◌≤◌, length, nat_le, IfOk, OnOk, true};
+ghost use Rattle.std.specs.Prelude.{◌≡◌, ℕ, suc, ◌+◌, ◌<◌, ◌≤◌, length, IfOk, OnOk, true};
 ghost use Rattle.mc_boot.specs.Outcome.{shown};
 ghost use Rattle.mc_boot.specs.SharedTail.{index_in_parent};
 ghost use Rattle.mc_tree.specs.inner.Weights.{from, shared_below};
 ghost use Rattle.mc_explore.specs.declared.table.Below.TheVariants.{Joined};
-ghost use Rattle.mc_explore.specs.inner.Table.{AreAlike, AreCutOff, AreRuns, AreSums, Begins, IsChild, IsColumn, IsInside, IsLevel, IsSplit, IsSummed, begin_of, rest_from};
+ghost use Rattle.mc_explore.specs.inner.Table.{AreAlike, AreCutOff, AreRuns, AreSums, IsChild, IsColumn, IsInside, IsLevel, IsSummed, rest_from};
 ghost use Rattle.mc_explore.specs.inner.Totals.{Totals, merged, cut_off, no_totals, report_totals, totals};
 
 use crate::census::Census;
+use crate::run::{Run, begin_at, run_of};
 use mc_boot::{Outcome, SharedTail};
 use std::alloc::{AllocError, Global};
 
@@ -20,11 +21,9 @@ pub(crate) enum Below {
     Apart(Vec<Census>),
 }
 
-/// Children of a node, one after another, that have the same censuses: the number of the first, how the path ends there, and the
-/// further paths from there.
+/// How the path ends at a child of a node, and the further paths from there.
 #[derive(Drop)]
-pub(crate) struct Run {
-    pub first: u32,
+pub(crate) struct Child {
     pub outcome: Outcome,
     pub below: Below,
 }
@@ -53,20 +52,17 @@ fn end_alike(one: &Outcome, other: &Outcome) -> bool
     one.result == other.result && one.ops == other.ops
 }
 
-impl Run {
-    /// Whether a child has the censuses that its children have.
-    fn takes(&self, number: u32, outcome: &Outcome, below: &Below) -> bool
-        ensures { (under : ℕ → ℕ → Totals) (n most : ℕ) → ((i : ℕ) → under 0 i ≡ no_totals)
-            → IsChild under n most self.now.first self.now.outcome self.now.below
-            → IsChild under n most number outcome.now below.now → result ≡ true
-            → (d : ℕ) → under d number ≡ under d self.now.first }
-    {
-        match (&self.below, below) {
-            (Below::Joined(one), Below::Joined(other)) => {
-                end_alike(outcome, &self.outcome) && are_alike(self.first, one, number, other)
-            }
-            _ => false,
+/// Whether a child has the censuses that the children of a run have.
+fn takes(run: &Run<Child>, number: u32, child: &Child) -> bool
+    ensures { (under : ℕ → ℕ → Totals) (n most : ℕ) → ((i : ℕ) → under 0 i ≡ no_totals)
+        → IsChild under n most run.now.first run.now.of → IsChild under n most number child.now
+        → result ≡ true → (d : ℕ) → under d number ≡ under d run.now.first }
+{
+    match (&run.of.below, &child.below) {
+        (Below::Joined(one), Below::Joined(other)) => {
+            end_alike(&child.outcome, &run.of.outcome) && are_alike(run.first, one, number, other)
         }
+        _ => false,
     }
 }
 
@@ -76,25 +72,22 @@ impl Run {
 ///
 /// Where an allocation failed.
 pub(crate) fn add_child(
-    runs: &mut Vec<Run>,
+    runs: &mut Vec<Run<Child>>,
     number: u32,
-    outcome: Outcome,
-    below: Below,
+    child: Child,
 ) -> Result<(), AllocError>
     ensures { OnOk result ((under : ℕ → ℕ → Totals) (n most : ℕ)
         → ((i : ℕ) → under 0 i ≡ no_totals) → AreRuns under n most number runs.old.items
-        → IsChild under n most number outcome below
-        → AreRuns under n most (number + 1) runs.new.items) }
+        → IsChild under n most number child → AreRuns under n most (number + 1) runs.new.items) }
 {
     if let Some(run) = runs.last()
-        && run.takes(number, &outcome, &below)
+        && takes(run, number, &child)
     {
         return Ok(());
     }
     runs.push(Run {
         first: number,
-        outcome,
-        below,
+        of: child,
     })?;
     Ok(())
 }
@@ -107,36 +100,11 @@ pub(crate) fn census_at(list: &[Census], index: usize) -> Census
     list.get(index).copied().unwrap_or(Census::new())
 }
 
-/// The number of the first child of a run, or how many children there are.
-fn begin_at(runs: &[Run], count: u32, index: usize) -> u32
-    ensures { result ≡ begin_of runs.now count index }
-{
-    if index < runs.len() {
-        runs[index].first
-    } else {
-        count
-    }
-}
-
-/// The run of a child; of the number after the last one that of the last.
-fn run_of(runs: &[Run], number: u32) -> usize
-    ensures begins { (n : ℕ) → IsSplit runs.now n → 1 ≤ length runs.now → number ≤ n
-        → Begins runs.now n number result }
-    ensures bound { result ≤ length runs.now }
-{
-    let after = runs.partition_point(
-        |run: &Run| -> bool
-            ensures { result ≡ nat_le run.now.first number }
-        { run.first <= number },
-    );
-    after.saturating_sub(1)
-}
-
 /// The sums of the children of the last of so many runs, each after its number as a first step: of none, of one run, and so on to
 /// all of them.
 fn sums(
     alloc: Global,
-    runs: &[Run],
+    runs: &[Run<Child>],
     level: &[Census],
     count: u32,
 ) -> Result<Vec<Census>, AllocError>
@@ -159,7 +127,7 @@ fn sums(
 /// For one bound: the censuses of the runs of so many children, and their sums.
 #[derive(Clone, Copy)]
 struct Level<'a> {
-    runs: &'a [Run],
+    runs: &'a [Run<Child>],
     count: u32,
     censuses: &'a [Census],
     sums: &'a [Census],
@@ -206,14 +174,14 @@ impl Level<'_> {
     }
 
     /// The census of the paths of at most one step more than these from the first child of a run.
-    fn next(&self, run: &Run, bound: u32) -> Census
+    fn next(&self, run: &Run<Child>, bound: u32) -> Census
         ensures { (under : ℕ → ℕ → Totals) (most c : ℕ) → IsSummed (under bound) self.now
-            → IsChild under self.now.count most c run.now.outcome run.now.below
+            → IsChild under self.now.count most c run.now.of
             → bound < most → result ≡ cut_off (under (suc bound) c) }
     {
-        match &run.below {
+        match &run.of.below {
             Below::Joined(shared_tail) => {
-                let own = Census::of(&run.outcome);
+                let own = Census::of(&run.of.outcome);
                 own.merged(&self.with_shared_tail(shared_tail))
             }
             Below::Apart(column) => census_at(column, bound as usize),
@@ -241,7 +209,7 @@ fn next_level(alloc: Global, level: &Level<'_>, bound: u32) -> Result<Vec<Census
 pub(crate) fn column_of(
     alloc: Global,
     own: Census,
-    runs: &[Run],
+    runs: &[Run<Child>],
     count: u32,
     bound: u32,
 ) -> Result<Vec<Census>, AllocError>

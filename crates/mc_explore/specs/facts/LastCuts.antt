@@ -1,8 +1,8 @@
 -- What is told of the next of the last steps after a path.
-use Rattle.std.proofs.{Common.{arith, sym}, lemmas.Option.{slice_get_cases}}
-use Rattle.std.specs.Prelude.{IsSomeAnd, List, None, Option, Some, [], length, slice_get, ℕ, ◌++◌, ◌+◌, ◌-◌, ◌<◌, ◌∷◌, ◌≡◌}
+use Rattle.std.proofs.Common.{arith, subst, sym}
+use Rattle.std.specs.Prelude.{IsSomeAnd, List, None, Option, Some, [], ℕ, ◌++◌, ◌+◌, ◌-◌, ◌<◌, ◌∷◌, ◌≡◌}
 use Rattle.mc_boot.specs.{SharedTail.{index_in_parent}, declared.shared_tail.SharedTail.{SharedTail}}
-use Rattle.mc_explore.specs.{declared.at_cuts.AtCuts.{AtCuts}, inner.LastCuts.{AreKept, AreLastCuts}}
+use Rattle.mc_explore.specs.{declared.at_cuts.AtCuts.{AtCuts}, inner.LastCuts.{AreKept, AreLastCuts}, inner.Runs.{IsIn, IsSplit}}
 use Rattle.mc_tree.specs.Tree.{landed}
 use Rattle.mc_walk.specs.TreeModel.{TreeModel}
 
@@ -11,19 +11,21 @@ module _ {N A T O : Type 0} (k : TreeModel N A T) (IsLike : List ℕ → List �
   abbrev at : ℕ
   at = index_in_parent tail next - kept.first
 
-  at_is : kept.first + at ≡ index_in_parent tail next
+  at_is : index_in_parent tail next ≡ kept.first + at
   at_is = omega (arith, are.low next)
 
   inside : next < k.tree.width (landed k.tree k.root path)
   inside = omega (arith, lt, are.count_is)
 
-  some_there : at < length kept.told.items
+  some_there : at < kept.count
   some_there = omega (arith, at_is, are.joined.are_like.within next inside, are.whole)
 
   pub like_there : IsLike (path ++ next ∷ []) (kept.parent_path ++ index_in_parent tail next ∷ [])
   like_there = are.joined.are_like.like next inside
 
-  pub told_there : (found : Option O) → ((i : ℕ) → index_in_parent tail next ≡ kept.first + i → found ≡ slice_get kept.told.items i)
-      → AreKept k IsLike IsTold kept → IsSomeAnd found (IsTold (kept.parent_path ++ index_in_parent tail next ∷ []))
-  told_there None is holds = let none = is at (sym at_is) in grind (arith, slice_get_cases, some_there)
-  told_there (Some o) is holds = holds.at_cuts (index_in_parent tail next) o (at, sym (is at (sym at_is)), sym at_is)
+  pub told_there : (found : Option O) → ((i : ℕ) → index_in_parent tail next ≡ kept.first + i → IsSplit kept.told.items kept.count → i < kept.count
+      → IsSomeAnd found (IsIn kept.told.items kept.count i)) → AreKept k IsLike IsTold kept → IsSomeAnd found (IsTold (kept.parent_path ++ index_in_parent tail next ∷ []))
+  told_there None is holds = is at at_is holds.at_cuts.split some_there
+  told_there (Some o) is holds =
+      let there = is at at_is holds.at_cuts.split some_there in
+      subst (λ n. IsTold (kept.parent_path ++ n ∷ []) o) (sym at_is) (holds.at_cuts.each there.run at _ there.there there.from there.below)

@@ -120,6 +120,10 @@ abbrev pub last_of : {E : Type 0} → List ℕ → Option (RowsAhead E) → List
 last_of path None = path
 last_of path (Some x) = with_last path x.next
 
+-- One of them is taken.
+abbrev pub one_taken : {E : Type 0} → RowsAhead E → ℕ → RowsAhead E
+one_taken x near = record { ahead = x.ahead; count = x.count; next = x.next + 1; near = near }
+
 -- No row ahead is to come.
 abbrev pub IsSpent : {E : Type 0} → RowsAhead E → Type 0
 IsSpent x = x.count ≤ x.next

@@ -1,7 +1,7 @@
 -- The rows of the longest paths: what is told after their last steps is found among what is told of the children of another node.
-use Rattle.std.specs.Prelude.{IfSome, List, None, Option, Some, [], length, slice_get, ℕ, ◌++◌, ◌+◌, ◌<◌, ◌^◌, ◌∷◌, ◌≡◌, ◌≤◌}
+use Rattle.std.specs.Prelude.{length, slice_get, ◌-◌, IfSome, List, None, Option, Some, [], ℕ, ◌++◌, ◌+◌, ◌<◌, ◌^◌, ◌∷◌, ◌≡◌, ◌≤◌, ◌⊎◌}
 use Rattle.mc_boot.specs.{Outcome.{outcome_of, shown}, Plan.{PowerOn}, SharedTail.{index_in_parent}, declared.outcome.Outcome.{Outcome}, declared.shared_tail.SharedTail.{SharedTail}}
-use Rattle.mc_explore.specs.{declared.at_cuts.AtCuts.{AtCuts}, declared.at_cuts.Joined.{Joined}, inner.OneRound.{boots}}
+use Rattle.mc_explore.specs.{declared.at_cuts.AtCuts.{AtCuts}, declared.at_cuts.Joined.{Joined}, declared.run.Run.{Run}, inner.OneRound.{boots}, inner.Runs.{AreOf}}
 use Rattle.mc_tree.specs.Tree.{landed}
 use Rattle.mc_walk.specs.TreeModel.{TreeModel}
 
@@ -16,9 +16,23 @@ AreSame from path other = boot_at from path ≡ boot_at from other
 abbrev pub HasOutcomeAt : PowerOn → List ℕ → Outcome → Type 0
 HasOutcomeAt from path outcome = outcome_of (boot_at from path) ≡ Some (shown outcome)
 
--- That is kept of the cut of that number.
-abbrev pub HasTold : {O : Type 0} → AtCuts O → ℕ → O → Type 0
-HasTold kept n o = (i : ℕ) × (slice_get kept.told.items i ≡ Some o) × (n ≡ kept.first + i)
+-- Nothing is kept.
+abbrev pub IsNothing : {O : Type 0} → AtCuts O → Type 0
+IsNothing kept = (kept.told.items ≡ []) × (kept.count ≡ 0)
+
+-- That is told of the last of the cuts.
+abbrev pub IsToldLast : {O : Type 0} → AtCuts O → O → Type 0
+IsToldLast kept told = (run : Run _) × (slice_get kept.told.items (length kept.told.items - 1) ≡ Some run) × (run.of ≡ told)
+
+-- A run more is kept, or there is no room for it.
+abbrev pub IsOneRunMore : {O : Type 0} → AtCuts O → O → AtCuts O → Type 0
+IsOneRunMore old told new =
+    ((new.told.items ≡ old.told.items) × (new.count ≡ old.count))
+    ⊎ ((new.told.items ≡ old.told.items ++ record { first = old.count; of = told } ∷ []) × (new.count ≡ old.count + 1))
+
+-- What is kept of the cuts of a boot is told of them.
+abbrev pub AreTold : {O : Type 0} → (List ℕ → O → Type 0) → AtCuts O → Type 0
+AreTold IsTold kept = AreOf (λ i run. IsTold (kept.parent_path ++ (kept.first + i) ∷ []) run.of) kept.count kept.told.items
 
 -- The child of its parent among whose children that of a joined node lies which is at the end of a path.
 abbrev pub IsIndexOf : Option Joined → List ℕ → ℕ → Type 0
@@ -40,7 +54,7 @@ module _ {N A T : Type 0} (k : TreeModel N A T) (IsLike : List ℕ → List ℕ 
   module _ {O : Type 0} (IsTold : List ℕ → O → Type 0) where
     -- What is kept.
     pub record AreKept (kept : AtCuts O) : Type 0 where
-      pub at_cuts : (n : ℕ) (o : O) → HasTold kept n o → IsTold (kept.parent_path ++ n ∷ []) o
+      pub at_cuts : AreTold IsTold kept
       pub joined_is : IfSome kept.joined (λ j. IsJoined kept.parent_path j.path j.shared_tail)
 
     -- The last steps after a path, so many, to children that lie among those of the node before its last step; all is there that is told of
@@ -48,7 +62,7 @@ module _ {N A T : Type 0} (k : TreeModel N A T) (IsLike : List ℕ → List ℕ 
     pub record AreLastCuts (path : List ℕ) (kept : AtCuts O) (tail : SharedTail) (count : ℕ) : Type 0 where
       pub joined : IsJoined kept.parent_path path tail
       pub count_is : count ≡ k.tree.width (landed k.tree k.root path)
-      pub whole : kept.first + length kept.told.items ≡ k.tree.width (landed k.tree k.root kept.parent_path)
+      pub whole : kept.first + kept.count ≡ k.tree.width (landed k.tree k.root kept.parent_path)
       pub low : (i : ℕ) → kept.first ≤ index_in_parent tail i
       pub some : 1 ≤ count
       pub small : count ≤ 2 ^ 31

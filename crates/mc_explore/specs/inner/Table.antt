@@ -3,7 +3,8 @@ use Rattle.std.specs.{List.{slice_get}, Prelude.{List, Some, [], length, suc, tr
 use Rattle.mc_boot.specs.{Outcome.{Report, shown}, declared.outcome.Outcome.{Outcome}, SharedTail.{index_in_parent}}
 use Rattle.mc_boot.specs.declared.shared_tail.SharedTail.{SharedTail}
 use Rattle.mc_explore.specs.{Right.{judged}, declared.census.CensusOf.{CensusOf}, declared.expectation.Expectation.{Expectation}, declared.table.Below.{Below}}
-use Rattle.mc_explore.specs.{declared.table.Below.TheVariants.{Apart, Joined}, declared.table.Level.{Level}, declared.table.Run.{Run}}
+use Rattle.mc_explore.specs.{declared.run.Run.{Run}, declared.table.Below.TheVariants.{Apart, Joined}, declared.table.Child.{Child}, declared.table.Level.{Level}}
+use Rattle.mc_explore.specs.inner.Runs.{AreOf, begin_of}
 use Rattle.mc_explore.specs.inner.Totals.{Totals, merged, cut_off, no_totals, report_totals, totals}
 use Rattle.mc_tree.specs.{Tree.{Allowed, Beyond, Tree}, facts.Order.{HasPassed}, inner.Weights.{IsShared, WeighAlike, from, path_tree, shared_below, weight}}
 use Rattle.mc_walk.specs.{TreeModel.{TreeModel}, Walks.{IsPath, IsSame, Walked}}
@@ -27,24 +28,6 @@ pub record IsInside (x : SharedTail) (n : ℕ) : Type 0 where
   pub late : x.kept + x.erases ≤ n
   pub early : (i : ℕ) → i < x.erases → index_in_parent x i < n
 
--- Runs of children: the number of the first one of a run, or of n children, where there is no such run.
-abbrev pub begin_of : List Run → ℕ → ℕ → ℕ
-begin_of [] n r = n
-begin_of (run ∷ runs) n zero = run.first
-begin_of (run ∷ runs) n (suc r) = begin_of runs n r
-
--- They part n children, each of which is in one of them.
-pub record IsSplit (runs : List Run) (n : ℕ) : Type 0 where
-  pub begin : begin_of runs n 0 ≡ 0
-  pub rising : (r : ℕ) → r < length runs → begin_of runs n r < begin_of runs n (suc r)
-
--- That run has that child, or is the last one, and all its children come before that number.
-pub record Begins (runs : List Run) (n number r : ℕ) : Type 0 where
-  pub some : r < length runs
-  pub first : begin_of runs n r ≤ number
-  pub at_most : number ≤ begin_of runs n (suc r)
-  pub inside : number < n → number < begin_of runs n (suc r)
-
 -- What lies below two children lies at the same places, or below themselves.
 pub record AreAlike (first : ℕ) (x : SharedTail) (number : ℕ) (y : SharedTail) : Type 0 where
   pub kept : x.kept ≡ y.kept
@@ -52,14 +35,13 @@ pub record AreAlike (first : ℕ) (x : SharedTail) (number : ℕ) (y : SharedTai
   pub index : (i : ℕ) → i < x.erases → (index_in_parent x i ≡ index_in_parent y i) ⊎ ((index_in_parent x i ≡ first) × (index_in_parent y i ≡ number))
 
 -- For one bound: the totals of a child of each run, which all its children have.
-pub record IsLevel (under : ℕ → Totals) (n : ℕ) (runs : List Run) (level : List (CensusOf (List ℕ))) : Type 0 where
-  pub split : IsSplit runs n
-  pub alike : (r i : ℕ) → r < length runs → begin_of runs n r ≤ i → i < begin_of runs n (suc r) → under i ≡ under (begin_of runs n r)
+pub record IsLevel (under : ℕ → Totals) (n : ℕ) (runs : List (Run Child)) (level : List (CensusOf (List ℕ))) : Type 0 where
+  pub alike : AreOf (λ i run. under i ≡ under run.first) n runs
   pub many : length level ≡ length runs
   pub cut_offs : AreCutOff (λ r. under (begin_of runs n r)) level
 
 -- The sums of the children of the last runs: of none, of one, and so on to all of them.
-abbrev pub AreSums : (ℕ → Totals) → ℕ → List Run → List (CensusOf (List ℕ)) → Type 0
+abbrev pub AreSums : (ℕ → Totals) → ℕ → List (Run Child) → List (CensusOf (List ℕ)) → Type 0
 AreSums under n runs sums = (length sums ≡ length runs + 1) × AreCutOff (λ k. rest_from under n (begin_of runs n (length runs - k))) sums
 
 -- A level is of these totals, and there is some run.
@@ -76,17 +58,18 @@ module _ (under : ℕ → ℕ → Totals) (n most : ℕ) where
     pub weighs : (d : ℕ)
         → under (suc d) c ≡ merged (report_totals (shown outcome)) (shared_below totals (under d) n x.kept x.erases (index_in_parent x))
 
-  -- A child whose path ends so, and what lies below it.
-  abbrev pub IsChild : ℕ → Outcome → Below → Type 0
-  IsChild c outcome (Joined x) = IsJoined c outcome x
-  IsChild c outcome (Apart column) = IsColumn (λ d. under (suc d) c) most column.items
+  -- What lies below a child of that outcome.
+  abbrev pub IsBelow : ℕ → Outcome → Below → Type 0
+  IsBelow c outcome (Joined x) = IsJoined c outcome x
+  IsBelow c outcome (Apart column) = IsColumn (λ d. under (suc d) c) most column.items
+
+  abbrev pub IsChild : ℕ → Child → Type 0
+  IsChild c child = IsBelow c child.outcome child.below
 
   -- The first so many children in runs.
-  pub record AreRuns (number : ℕ) (runs : List Run) : Type 0 where
-    pub split : IsSplit runs number
-    pub child : (r : ℕ) (run : Run) → slice_get runs r ≡ Some run → IsChild run.first run.outcome run.below
-    pub alike : (r i : ℕ) → r < length runs → begin_of runs number r ≤ i → i < begin_of runs number (suc r)
-        → (d : ℕ) → under d i ≡ under d (begin_of runs number r)
+  pub record AreRuns (number : ℕ) (runs : List (Run Child)) : Type 0 where
+    pub alike : AreOf (λ i run. (d : ℕ) → under d i ≡ under d run.first) number runs
+    pub child : (r : ℕ) (run : Run Child) → slice_get runs r ≡ Some run → IsChild run.first run.of
 
 -- The totals of a tree.
 

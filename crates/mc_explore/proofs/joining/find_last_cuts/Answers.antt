@@ -1,5 +1,5 @@
 use Rattle.std.proofs.Common.{List, arith, refl, rules, sym, ℕ, ◌∙◌}
-use Rattle.mc_explore.proofs.LastCuts.{joined_there, kept_turned, node_there, parent_there}
+use Rattle.mc_explore.proofs.LastCuts.{joined_there, node_there, parent_there, told_turned}
 use Rattle.mc_explore.specs.facts.Children.{child_here}
 use Rattle.mc_tree.specs.Tree.{landed}
 use Rattle.mc_walk.specs.TreeModel.{HasChild}
@@ -23,7 +23,7 @@ returns-then-not-has_all-clause-kept g c = λ kept.
     let joined = joined_there k walk c.in_ok-step.step.now c.summary-summary.result.now c.in_ok-parent_path.parent_path.now c.args.path.now c.in_ok-parent_path.field-0-0.now
     c.in_ok-step.ensures.step c.summary-summary.ensures c.requires.path c.in_ok-parent_path.ensures.cases.0 (g.X.Joining.IsLike b) c.in_ok-shared_tail.shared_tail found in
     record {
-      at_cuts = kept_turned k (g.X.Joining.IsLike b) (g.X.Joining.IsTold b) c.args.kept.now c.turn_to.new.self kept c.turn_to.ensures.kept;
+      at_cuts = told_turned (g.X.Joining.IsTold b) _ c.turn_to.new.self c.turn_to.ensures.kept kept.at_cuts;
       joined_is = rw (sym c.turn_to.ensures.path, sym c.of-path.ensures) at joined;
     }
 
@@ -32,7 +32,7 @@ returns-clause-kept g c = λ kept.
     let b = c.args.walk.now.flash_tree in
     let k = g.X.FlashTree.model b in
     record {
-      at_cuts = kept_turned k (g.X.Joining.IsLike b) (g.X.Joining.IsTold b) c.args.kept.now c.turn_to.new.self kept c.turn_to.ensures.kept;
+      at_cuts = told_turned (g.X.Joining.IsTold b) _ c.turn_to.new.self c.turn_to.ensures.kept kept.at_cuts;
       joined_is = rw c.turn_to.ensures.joined tt;
     }
 

@@ -8,5 +8,5 @@ returns-in-Some-clause-kept g c = λ kept.
     let k = g.X.FlashTree.model b in
     let path = c.cuts-path.ensures.value ∙ c.requires.path in
     let told = rw c.flash_tree.ensures at c.told.ensures in
-    kept_more k (g.X.Joining.IsLike b) (g.X.Joining.IsTold b) c.args.kept.now c.put.new.self kept (g.met.X.Joining.told_alike b) c.cuts-path.result.now c.in-Some.index c.told.result
-    c.put.ensures.kept c.put.ensures.path c.put.ensures.joined c.in-Some.ensures (rw (sym path) at c.requires.listed.1) (rw (sym path) at (told c.args.walk.now.path c.summary.ensures.summary_is))
+    kept_more k (g.X.Joining.IsLike b) (g.X.Joining.IsTold b) (g.met.X.Joining.told_alike b) c.args.kept.now c.keep.new.kept kept c.cuts-path.result.now c.in-Some.index c.told.result
+    (c.keep.ensures.kept b) c.keep.ensures.path c.keep.ensures.joined c.in-Some.ensures (rw (sym path) at c.requires.listed.1) (rw (sym path) at (told c.args.walk.now.path c.summary.ensures.summary_is))

@@ -3,7 +3,7 @@ use Rattle.mc_boot.specs.Outcome.{shown}
 use Rattle.mc_explore.proofs.Runs.{twin_more}
 use Rattle.mc_explore.proofs.{Counting.{is_joined, weigh_is}, Passing.{alike_there, come_below, own_there, passes_all, passes_none, tail_there, weights_there}}
 use Rattle.mc_explore.specs.{facts.Children.{HasCome, IsAtChild, can_pass, come_on, listed_there, reached, width_here}, Right.{judged}}
-use Rattle.mc_explore.specs.{declared.table.Below.{Below}, inner.Table.{AreRuns, HasWeights, IsChild, IsJoined, own_totals, paths_of, weigh_below}}
+use Rattle.mc_explore.specs.{declared.table.Below.{Below}, inner.Table.{AreRuns, HasWeights, IsBelow, IsJoined, own_totals, paths_of, weigh_below}}
 use Rattle.mc_explore.specs.inner.Totals.{merged, cut_off, report_totals, totals}
 use Rattle.mc_tree.specs.inner.Weights.{from}
 use Rattle.mc_explore.proofs.start_census.+column.Goals as goal
@@ -95,7 +95,7 @@ loop-number-preserved g t c =
       | in-Some w ↦ subst (HasCome model walk (suc n)) (sym w.walk-is) (come_on model walk n at here)
       | in-None+in_ok-column-in-None w ↦ subst (HasCome model walk (suc n)) (sym w.walk-is) (come_below model walk n at here _ w.in_ok-column-in-None.ensures.passes)
     ] in
-    let P : Below → Type 0 = IsChild under c.width-count.result bound n c.judge-outcome.result in
+    let P : Below → Type 0 = IsBelow under c.width-count.result bound n c.judge-outcome.result in
     let child : P c.match-end.below = elim c.match-end.branch [
       | in-Some w ↦
           let y = w.in-Some.shared_tail in

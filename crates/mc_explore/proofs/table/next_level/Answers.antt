@@ -1,7 +1,7 @@
 use Rattle.std.proofs.{Common.{◌≡◌, ℕ, suc, List, [], ◌∷◌, ◌++◌, length, refl, sym, ap, ◌∙◌, arith}, lemmas.List.{length-append}}
 use Rattle.std.proofs.lemmas.Option.{slice_get_read}
 use Rattle.mc_explore.proofs.{Counting.{Census, more_cut_off}, Runs.{begin_is}}
-use Rattle.mc_explore.specs.{inner.Table.{begin_of}, inner.Totals.{cut_off}}
+use Rattle.mc_explore.specs.{inner.Runs.{begin_of}, inner.Totals.{cut_off}}
 use Rattle.mc_explore.proofs.table.next_level.Goals as goal
 
 pub loop-run-preserved : goal.loop-run-preserved
@@ -25,8 +25,7 @@ pub returns : goal.returns
 returns c = λ under most are level sums lt.
     let i = c.loop-run.invariant in
     record {
-      split = are.split;
-      alike = λ r x within le below. are.alike r x within le below (suc c.args.bound);
+      alike = record { split = are.alike.split; each = λ r i run is le below. are.alike.each r i run is le below (suc c.args.bound) };
       many = omega (arith, i.many, c.loop-run-test.false, c.loop-run.auto.run-index-end);
       cut_offs = i.cut_offs under most are level sums lt;
     }

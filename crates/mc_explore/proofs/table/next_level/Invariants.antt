@@ -1,5 +1,5 @@
 use Rattle.std.proofs.Common.{◌≡◌, ℕ, suc, ◌<◌, length}
-use Rattle.mc_explore.specs.{inner.Table.{AreCutOff, AreRuns, AreSums, IsLevel, begin_of}, inner.Totals.{Totals}}
+use Rattle.mc_explore.specs.{inner.Table.{AreCutOff, AreRuns, AreSums, IsLevel}, inner.Runs.{begin_of}, inner.Totals.{Totals}}
 use Rattle.mc_explore.proofs.table.next_level.Given as goal
 
 abbrev pub invariant-loop-run : goal.invariant-loop-run

@@ -1,6 +1,6 @@
 use Rattle.std.proofs.{Common.{◌≡◌, ◌<◌, ℕ, suc, ◌+◌, ◌-◌, ◌∷◌, ◌++◌, [], length, List, ap, sym, ◌∙◌, arith}, lemmas.List.{length-append}}
 use Rattle.mc_tree.specs.inner.Weights.{from}
-use Rattle.mc_explore.specs.{inner.Table.{IsLevel, begin_of, rest_from}, inner.Totals.{Totals, cut_off, totals}}
+use Rattle.mc_explore.specs.{inner.Table.{IsLevel, rest_from}, inner.Runs.{begin_of}, inner.Totals.{Totals, cut_off, totals}}
 use Rattle.mc_explore.proofs.{Counting.{Census, more_cut_off}, Runs.{none_left, rest_parts}}
 use Rattle.mc_explore.proofs.table.sums.Goals as goal
 
@@ -32,7 +32,7 @@ loop-later-preserved c =
     ∙ ap (λ i. cut_off (from totals (λ _. a) (end - first) i)) c.begin_at-first.ensures in
     let rest = i.sum under level ∙ ap (λ k. cut_off (rest_from under n (begin_of runs n k))) after in
     c.merged-sum.ensures _ (rest_from under n end) part rest
-    ∙ ap cut_off (rest_parts under n runs c.args.level.now level first r lt (omega arith) (omega (arith, level.split.rising r lt)))
+    ∙ ap cut_off (rest_parts under n runs c.args.level.now level first r lt (omega arith) (omega (arith, level.alike.split.rising r lt)))
     ∙ ap (λ k. cut_off (rest_from under n (begin_of runs n k))) (sym at) in
     record {
       many = omega (arith, ap length pushed, length-append old (one ∷ []), i.many);

@@ -1,5 +1,5 @@
 use Rattle.std.proofs.Common.{◌≡◌, ℕ, ◌+◌, ◌-◌, length}
-use Rattle.mc_explore.specs.{inner.Table.{AreCutOff, IsLevel, begin_of, rest_from}, inner.Totals.{Totals, cut_off}}
+use Rattle.mc_explore.specs.{inner.Table.{AreCutOff, IsLevel, rest_from}, inner.Runs.{begin_of}, inner.Totals.{Totals, cut_off}}
 use Rattle.mc_explore.proofs.table.sums.Given as goal
 
 abbrev pub invariant-loop-later : goal.invariant-loop-later

@@ -6,15 +6,15 @@ use Rattle.mc_explore.specs.{facts.LastCuts.{like_there, told_there}, inner.OneR
 use Rattle.mc_tree.specs.Tree.{label, round_one}
 use Rattle.mc_campaign.proofs.campaign_subject.TwoRoundsSubject.row_ahead.Goals as goal
 
-pub returns-in_err-told : goal.returns-in_err-told
-returns-in_err-told c = λ holds are allowed.
+pub returns-in_err-told-clause-row : goal.returns-in_err-told-clause-row
+returns-in_err-told-clause-row c = λ holds are allowed.
     let t = c.args.self in
     let rows = c.args.rows.now in
     absurd (told_there (model_of t) (AreLikePaths t) (EndSoAt t) c.args._path.now c.args.kept.now rows.ahead.shared_tail rows.count rows.next are.are c.requires.some None
-    (λ i at. ap (option_map (λ o. o.now)) (sym c.in_err-told.was) ∙ c.find.ensures i at) holds)
+    (λ i at split lt. rw c.in_err-told.was at (c.find.ensures i at split lt)) holds)
 
-pub returns-in_err-campaign : goal.returns-in_err-campaign
-returns-in_err-campaign c = λ holds are allowed.
+pub returns-in_err-campaign-clause-row : goal.returns-in_err-campaign-clause-row
+returns-in_err-campaign-clause-row c = λ holds are allowed.
     let t = c.args.self in
     let rows = c.args.rows.now in
     let path = c.args._path.now in
@@ -22,8 +22,8 @@ returns-in_err-campaign c = λ holds are allowed.
     let room : length rows.ahead.campaign < 16 = omega (arith, c.requires.short, ap (λ (l : List (ℕ × ℕ)). length l) are.campaign_is, many) in
     absurd (let no = c.in_err-campaign.ensures.some room (campaign_ordered t c.args.kept.now path rows.ahead rows.count rows.next are allowed) in cc)
 
-pub returns : goal.returns
-returns c = λ holds are allowed.
+pub returns-clause-row : goal.returns-clause-row
+returns-clause-row c = λ holds are allowed.
     let t = c.args.self in
     let start = begins t.one_round in
     let k = t.confirms in
@@ -32,7 +32,7 @@ returns c = λ holds are allowed.
     let path = c.args._path.now in
     let ends = c.in_ok-told.told.now in
     let told = told_there (model_of t) (AreLikePaths t) (EndSoAt t) path kept rows.ahead.shared_tail rows.count rows.next are.are c.requires.some (Some ends)
-    (λ i at. ap (option_map (λ o. o.now)) (sym c.in_ok-told.was) ∙ c.find.ensures i at) holds in
+    (λ i at split lt. rw c.in_ok-told.was at (c.find.ensures i at split lt)) holds in
     let like = like_there (model_of t) (AreLikePaths t) (EndSoAt t) path kept rows.ahead.shared_tail rows.count rows.next are.are c.requires.some in
     let key = c.in_ok-campaign.ensures.more ∙ campaign_there t kept path rows.ahead rows.count rows.next are allowed in
     let P : List (ℕ × ℕ) → Outcome → Outcome → Type 0 = λ d one two. HasOutcomes start k (record { campaign = d; first = shown one; second = shown two }) in

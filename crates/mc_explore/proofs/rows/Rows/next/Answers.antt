@@ -29,18 +29,20 @@ returns-in-Some-clause-finds g c =
     let holds = (step g.X.FlashTree.model g.X.Subject.holds g.X.Subject.is_ahead s.tour s.kept s.path x i lt).holds_there in
     let going = going_there g.X.FlashTree.model g.X.Subject.holds g.X.Subject.is_ahead s.tour s.kept s.path x i lt in
     let listed = subst (IsPath (g.X.FlashTree.model w.flash_tree) w) last next.listed in
-    let row = (rw c.walk.ensures at (rw c.flash_tree-flash_tree.ensures at c.row_ahead-row.ensures)) holds beyond.are listed.1 in
-    let new : Rowed g.row.X.Denot = record { walk = w; phase = s.tour.phase; last = with_last s.path (x.next + 1) } in
+    let row = (rw c.walk.ensures at (rw c.flash_tree-flash_tree.ensures at c.row_ahead-row.ensures.row)) holds beyond.are listed.1 in
+    let new : ℕ → Rowed g.row.X.Denot = λ n. record { walk = w; phase = s.tour.phase; last = with_last s.path n } in
     let old : Rowed g.row.X.Denot = record { walk = w; phase = s.tour.phase; last = with_last s.path x.next } in
     let is : old ≡ c.args.self.now =
     ap (λ (o : Option (RowsAhead g.row.X-Ahead.Denot)). record { walk = w; phase = s.tour.phase; last = last_of s.path o }) (sym c.in-Some.ensures.0) ∙ c.self.view_is in
-    let P : Rowed g.row.X.Denot → Option g.X.Subject.Shown → Type 0 =
-    λ z found. FindsRow g.X.Subject.subject g.X.FlashTree.model g.X.Subject.begins g.X.Subject.choice g.X.Subject.key_of z found new in
+    let P : ℕ → Rowed g.row.X.Denot → Option g.X.Subject.Shown → Type 0 =
+    λ n z found. FindsRow g.X.Subject.subject g.X.FlashTree.model g.X.Subject.begins g.X.Subject.choice g.X.Subject.key_of z found (new n) in
     let Q : List ℕ → g.X.Subject.Shown → Type 0 =
     λ l r. IsRowAt g.X.Subject.subject g.X.Subject.begins g.X.Subject.choice g.X.Subject.key_of w.flash_tree l r in
-    subst (λ z. P z (option_map g.X.Subject.shown c.row_ahead-row.result)) is
-    (some_found g.X.Subject.shown (Q (s.path ++ x.next ∷ [])) (P old) c.row_ahead-row.result row
-    (λ r at. (next, subst (λ l. Q l r) (sym last) at, record { flash_tree = refl; bound = refl }, going)))
+    let one : c.row_ahead-row.new.rows.next ≡ x.next + 1 = ap (λ (r : RowsAhead g.row.X-Ahead.Denot). r.next) c.row_ahead-row.ensures.next in
+    subst (λ n. P n c.args.self.now (option_map g.X.Subject.shown c.row_ahead-row.result)) (sym one)
+    (subst (λ z. P (x.next + 1) z (option_map g.X.Subject.shown c.row_ahead-row.result)) is
+    (some_found g.X.Subject.shown (Q (s.path ++ x.next ∷ [])) (P (x.next + 1) old) c.row_ahead-row.result row
+    (λ r at. (next, subst (λ l. Q l r) (sym last) at, record { flash_tree = refl; bound = refl }, going))))
 
 -- ---- the next node
 

@@ -1,23 +1,23 @@
-use Rattle.std.proofs.Common.{List, None, Some, ℕ, [], ◌∷◌, ◌++◌, ap, option_map, sym, ◌∙◌}
+use Rattle.std.proofs.Common.{List, None, Some, ℕ, [], ◌∷◌, ◌++◌, ap, ◌∙◌}
 use Rattle.mc_boot.specs.Outcome.{outcome_of}
 use Rattle.mc_explore.specs.{inner.LastCuts.{AreSame, HasOutcomeAt}, inner.OneRound.{begins, one_round}, Rows.{outcome_after}, facts.LastCuts.{like_there, told_there}, facts.Listed.{lands_summary}}
 use Rattle.mc_explore.proofs.schedules.OneRoundSubject.row_ahead.Goals as goal
 
-pub returns : goal.returns
-returns c = λ holds are allowed.
+pub returns-clause-row : goal.returns-clause-row
+returns-clause-row c = λ holds are allowed.
     let x = begins c.args.self in
     let rows = c.args.rows.now in
     let kept = c.args.kept.now in
     let path = c.args.path.now in
     let next : List ℕ = path ++ rows.next ∷ [] in
     let told = told_there (one_round x) (AreSame x) (HasOutcomeAt x) path kept rows.ahead rows.count rows.next are c.requires.some (Some c.in_ok-outcome.outcome.now)
-    (λ i at. ap (option_map (λ o. o.now)) (sym c.in_ok-outcome.was) ∙ c.find.ensures i at) holds in
+    (λ i at split lt. rw c.in_ok-outcome.was at (c.find.ensures i at split lt)) holds in
     let like = like_there (one_round x) (AreSame x) (HasOutcomeAt x) path kept rows.ahead rows.count rows.next are c.requires.some in
     (c.push.ensures, ap (λ (l : List ℕ). outcome_after x l) c.push.ensures ∙ lands_summary x next allowed ∙ ap outcome_of like ∙ told)
 
-pub returns-in_err-outcome : goal.returns-in_err-outcome
-returns-in_err-outcome c = λ holds are allowed.
+pub returns-in_err-outcome-clause-row : goal.returns-in_err-outcome-clause-row
+returns-in_err-outcome-clause-row c = λ holds are allowed.
     let x = begins c.args.self in
     let rows = c.args.rows.now in
     absurd (told_there (one_round x) (AreSame x) (HasOutcomeAt x) c.args.path.now c.args.kept.now rows.ahead rows.count rows.next are c.requires.some None
-    (λ i at. ap (option_map (λ o. o.now)) (sym c.in_err-outcome.was) ∙ c.find.ensures i at) holds)
+    (λ i at split lt. rw c.in_err-outcome.was at (c.find.ensures i at split lt)) holds)

@@ -13,7 +13,7 @@ loop-number-preserved c = λ under is inside.
     let runs = c.args.self.now.runs.now in
     let at : ℕ → Totals = λ i. under (index_in_parent c.args.shared_tail.now i) in
     let lt = inside.early number (omega (arith, c.loop-number-test.true, c.erases-number-end.ensures)) in
-    let here = rw c.index_in_parent.ensures at (c.run_of-run.ensures.begins n level.split is.some (omega (arith, lt, c.index_in_parent.ensures))) in
+    let here = rw c.index_in_parent.ensures at (c.run_of-run.ensures.begins n level.alike.split is.some (omega (arith, lt, c.index_in_parent.ensures))) in
     let there = at_child under n runs c.args.self.now.censuses.now level _ c.run_of-run.result c.census_at.result lt here c.census_at.ensures in
     let one = c.prefixed.ensures (at number) there in
     c.merged-sum.ensures (from totals at number 0) (totals.prefixed number (at number)) (c.loop-number.invariant under is inside) one ∙ ap cut_off (more_first at number)

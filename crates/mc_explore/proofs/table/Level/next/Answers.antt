@@ -9,8 +9,8 @@ returns-in-Joined c = λ under most i is here lt.
     let x = c.in-Joined.shared_tail in
     let d : ℕ = c.args.bound in
     let n : ℕ = c.args.self.now.count in
-    let joined : IsJoined under n most i c.args.run.now.outcome x = rw c.in-Joined.is at here in
-    c.merged.ensures (report_totals (shown c.args.run.now.outcome)) (shared_below totals (under d) n x.kept x.erases (index_in_parent x)) c.of-own.ensures
+    let joined : IsJoined under n most i c.args.run.now.of.outcome x = rw c.in-Joined.is at here in
+    c.merged.ensures (report_totals (shown c.args.run.now.of.outcome)) (shared_below totals (under d) n x.kept x.erases (index_in_parent x)) c.of-own.ensures
     (c.with_shared_tail.ensures (under d) is joined.inside)
     ∙ ap cut_off (sym (joined.weighs d))
 

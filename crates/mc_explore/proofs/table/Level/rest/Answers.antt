@@ -1,7 +1,7 @@
 use Rattle.std.proofs.Common.{ℕ, ap, ◌∙◌, ◌+◌, ◌-◌, ◌≡◌, arith, length, suc}
 use Rattle.mc_tree.specs.inner.Weights.{from}
 use Rattle.mc_explore.proofs.Runs.{rest_parts}
-use Rattle.mc_explore.specs.{inner.Table.{begin_of, rest_from}, inner.Totals.{cut_off, totals}}
+use Rattle.mc_explore.specs.{inner.Table.{rest_from}, inner.Runs.{begin_of}, inner.Totals.{cut_off, totals}}
 use Rattle.mc_explore.proofs.table.Level.rest.Goals as goal
 
 pub returns : goal.returns
@@ -12,7 +12,7 @@ returns c = λ under is le.
     let sums = is.sums in
     let number : ℕ = c.args.number in
     let r : ℕ = c.run_of-index.result in
-    let here = c.run_of-index.ensures.begins n level.split is.some le in
+    let here = c.run_of-index.ensures.begins n level.alike.split is.some le in
     let one : r + 1 ≡ suc r = omega arith in
     let end = c.begin_at.ensures ∙ ap (begin_of runs n) one in
     let times = c.saturating_sub-times.ensures ∙ ap (λ x. x - number) end in

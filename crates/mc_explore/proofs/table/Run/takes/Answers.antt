@@ -1,9 +1,0 @@
-use Rattle.mc_explore.proofs.Runs.{same_totals}
-use Rattle.mc_explore.specs.inner.Table.{IsJoined}
-use Rattle.mc_explore.proofs.table.Run.takes.Goals as goal
-
-pub returns-then-end_alike : goal.returns-then-end_alike
-returns-then-end_alike c = λ under n most none one other yes d.
-    let first : IsJoined under n most c.args.self.now.first c.args.self.now.outcome c.in-Joined-Joined.one = rw c.in-Joined-Joined.is-0 at one in
-    let second : IsJoined under n most c.args.number c.args.outcome.now c.in-Joined-Joined.other = rw c.in-Joined-Joined.is-1 at other in
-    same_totals under n most none c.args.self.now.first c.args.number c.args.self.now.outcome c.args.outcome.now _ _ (c.end_alike.ensures c.if-end_alike.true) (c.are_alike.ensures yes) first second d
