@@ -1,13 +1,13 @@
 -- Operation number k of each list of operations, by either grain.
-use Rattle.std.proofs.{Common.{ap, arith, zero-add, ◌∙◌, add-one}, Math.Nat.{mul-le-mul_right}}
+use Rattle.std.proofs.{Common.{ap, arith, inl, zero-add, ◌∙◌, add-one}, Math.Nat.{mul-le-mul_right}}
 use Rattle.std.proofs.lemmas.List.FromFn.{length-map-range_with_len, length-range_with_len, get_or-range_with_len}
 use Rattle.std.proofs.lemmas.Option.{slice_get_within, get_or_from_slice_get, slice_get-get_or, slice_get-map}
 use Rattle.std.specs.List.{range_with_len}
 use Rattle.std.specs.Prelude.{IfSome, List, Option, Some, [], drop, flat_map, length, map, max, refl, slice_get, suc, zero, ℕ, ◌%◌, ◌*◌, ◌++◌, ◌+◌, ◌-◌, ◌/◌, ◌<◌, ◌^◌, ◌∷◌, ◌≡◌, ◌≤◌, option_map}
 use Rattle.mc_boot.specs.{Boot.{IsInside}, Plan.{brought_in, copy_of, entry_of, moved_up, piece, steps, taken_out, transfers, write}}
-use Rattle.mc_boot.specs.declared.transfer.Transfer.{Transfer}
+use Rattle.mc_boot.specs.{Copies.{whole_copy}, declared.transfer.Copies.{Copies}, declared.transfer.Transfer.{Transfer}}
 use Rattle.mc_flash.specs.{Flash.{CanTry, IsRange, sectors_of, size_of}, Geometry.{Geometry, IsLayout, greatest_sectors, in_pieces, trailer_sectors}}
-use Rattle.mc_flash.specs.{declared.flash.Grain.{Grain}, declared.op.Op.{Op}, declared.op.Slot.{Slot}}
+use Rattle.mc_flash.specs.{declared.flash.Grain.{Grain}, declared.op.Op.{Op}, declared.op.Op.TheVariants.{Copy}, declared.op.Slot.{Slot}}
 use Rattle.mc_flash.specs.facts.Layouts.{chunks_cover, whole_add, whole_sector, whole_times}
 use Rattle.mc_trailer.specs.{Trailer.{place}, declared.places.Field.{Field}}
 use lib.Seq.{drop-cons}
@@ -77,6 +77,32 @@ slot_small g it ok = grind (arith, mul-le-mul_right)
 pub can_copy : (g : Geometry) (t : Transfer) (c : ℕ) → IsLayout g → IsInside g t → c < g.sector / g.chunk → CanTry g (copy_of g t c)
 can_copy g t c ok inside below = grind (arith, can_chunk)
 
+-- Several chunks of a sector at once.
+can_chunks : (g : Geometry) (slot : Slot) (sector c n : ℕ) → IsLayout g → sector < sectors_of g slot → 0 < n → c + n ≤ g.sector / g.chunk
+    → IsRange g slot (sector * g.sector + c * g.chunk) (n * g.chunk)
+can_chunks g slot sector c n ok there some below =
+    record {
+      inside =
+          let whole : (sector + 1) * g.sector ≤ sectors_of g slot * g.sector = mul-le-mul_right g.sector (omega (arith, there)) in
+          let part : (c + n) * g.chunk ≤ g.sector / g.chunk * g.chunk = mul-le-mul_right g.chunk below in
+          let cover = chunks_cover g ok in
+          omega (arith, whole, part, cover);
+      start = whole_add g (sector * g.sector) (c * g.chunk) (whole_times g sector g.sector (whole_sector g ok)) (whole_times g c g.chunk ok.chunk_units);
+      units = whole_times g n g.chunk ok.chunk_units;
+      some = let one : 1 * g.chunk ≤ n * g.chunk = mul-le-mul_right g.chunk some in omega (arith, one, ok.some_chunk);
+    }
+
+pub can_copies : (g : Geometry) (t : Transfer) (c n : ℕ) → IsLayout g → IsInside g t → 0 < n → c + n ≤ g.sector / g.chunk
+    → CanTry g (Copy t.from (t.from_sector * g.sector + c * g.chunk) t.to (t.to_sector * g.sector + c * g.chunk) (n * g.chunk))
+can_copies g t c n ok inside some below = (
+  can_chunks g t.from t.from_sector c n ok inside.from some below,
+  can_chunks g t.to t.to_sector c n ok inside.to some below,
+  λ same.
+      let part : (c + n) * g.chunk ≤ g.sector / g.chunk * g.chunk = mul-le-mul_right g.chunk below in
+      let next = ap (λ z. z * g.sector) (inside.apart same) in
+      inl (omega (arith, part, chunks_cover g ok, next)),
+)
+
 -- What the grain changes: the writes of the larger fields, and the layout that a course has.
 
 pub greatest_pieces : (c : Grain) (g : Geometry) → greatest_sectors (in_pieces c g) ≡ greatest_sectors g
@@ -96,6 +122,9 @@ whole_units g ok = grind arith
 -- what a course of a layout in pieces may try, its flash lets it try
 pub can_of : (c : Grain) (g l : Geometry) (o : Option Op) → l ≡ in_pieces c g → IfSome o (λ op. CanTry l op) → IfSome o (λ op. CanTry g op)
 can_of c g l it e h = grind arith
+
+pub can_copies_of : (c : Grain) (g l : Geometry) (o : Option Copies) → l ≡ in_pieces c g → IfSome o (λ x. CanTry l (whole_copy x x.count)) → IfSome o (λ x. CanTry g (whole_copy x x.count))
+can_copies_of c g l it e h = grind arith
 
 -- The sections of a course by their number.
 
@@ -131,6 +160,18 @@ get_copy g t (suc c) some below =
     get_prefix (map (copy_of g t) (range_with_len 0 (g.sector / g.chunk))) (entry_of g t ∷ []) c (copy_of g t c)
     (get_mapped (copy_of g t) 0 (g.sector / g.chunk) c (omega arith) ∙ ap (λ i. Some (copy_of g t i)) (zero-add c))
     ∙ ap (λ i. Some (copy_of g t i)) (omega arith)
+
+-- One of several copies that begin with that chunk.
+pub get_later_copy : (g : Geometry) (t : Transfer) (c j k : ℕ) → k ≡ c + 1 + j → c + j < g.sector / g.chunk
+    → slice_get (steps g t) k ≡ Some (Copy t.from (t.from_sector * g.sector + c * g.chunk + j * g.chunk) t.to (t.to_sector * g.sector + c * g.chunk + j * g.chunk) g.chunk)
+get_later_copy g t c j k is below =
+    let chunk : k - 1 ≡ c + j = omega (arith, is) in
+    let from : t.from_sector * g.sector + (c + j) * g.chunk ≡ t.from_sector * g.sector + c * g.chunk + j * g.chunk = omega arith in
+    let to : t.to_sector * g.sector + (c + j) * g.chunk ≡ t.to_sector * g.sector + c * g.chunk + j * g.chunk = omega arith in
+    get_copy g t k (omega (arith, is)) (omega (arith, is, below))
+    ∙ ap (λ i. Some (copy_of g t i)) chunk
+    ∙ ap (λ i. Some (Copy t.from i t.to (t.to_sector * g.sector + (c + j) * g.chunk) g.chunk)) from
+    ∙ ap (λ i. Some (Copy t.from (t.from_sector * g.sector + c * g.chunk + j * g.chunk) t.to i g.chunk)) to
 
 pub get_entry : (g : Geometry) (t : Transfer) (k : ℕ) → k ≡ g.sector / g.chunk + 1 → slice_get (steps g t) k ≡ Some (entry_of g t)
 get_entry g t zero e = absurd (omega arith)

@@ -1,7 +1,9 @@
 -- A course is its sections, one after the other: how many operations each has, and which is which.
 use Rattle.std.proofs.{Common.{add-one, ap, append-nil, append_assoc, arith, length-append, sym, zero-add, ◌∙◌}, Math.Nat.{div-lt_iff_lt-mul, mod-add-div', mul-le-mul_right}}
 use Rattle.std.proofs.{lemmas.List.{length-drop}, lemmas.List.FromFn.{length-map-range_with_len}, lemmas.Nat.{mod_below}, lemmas.Option.{slice_get_within}}
-use Rattle.std.specs.Prelude.{Bool, IfSome, List, Option, Some, [], drop, get_or, if◌then◌else◌, length, map, max, refl, slice_get, suc, take, false, true, zero, ℕ, ◌∷◌, ◌%◌, ◌*◌, ◌++◌, ◌+◌, ◌-◌, ◌/◌, ◌<◌, ◌≡◌, ◌≤◌}
+use Rattle.std.proofs.lemmas.Nat.{div-add-mod', div-mul-add, mod-mul-add}
+use Rattle.mc_boot.specs.{Copies.{AreCopies, copy_at}, declared.transfer.Copies.{Copies}, inner.Section.{IsTransferOf}}
+use Rattle.std.specs.Prelude.{Bool, IfSome, List, None, Option, Some, [], drop, get_or, if◌then◌else◌, length, map, max, refl, slice_get, suc, take, false, true, zero, ℕ, ◌∷◌, ◌%◌, ◌*◌, ◌++◌, ◌+◌, ◌-◌, ◌/◌, ◌<◌, ◌≡◌, ◌≤◌}
 use Rattle.mc_boot.specs.Boot.{list_from}
 use Rattle.mc_boot.specs.Plan.{closing, is_revert, is_test, new_list, opening_writes, preparation_writes, resumed_list, steps, swap_list, trailer_erase, trailer_erases, transfers, write_count}
 use Rattle.mc_boot.specs.{declared.course.Opening.{Opening}, declared.course.Opening.TheVariants.{New, Resumed}, declared.section.Counted.{Counted}, declared.section.Section.{Section}}
@@ -131,6 +133,22 @@ module _ (c : Grain) (g : Geometry) (n : ℕ) where
       ∙ get_transfer c g n (first_of o) later w t width is
       ∙ there
 
+  -- Copies of a transfer.
+  pub copies_there : (o : Opening) (k later w most : ℕ) (t : Transfer) (found : Option Copies) → w ≡ g.sector / g.chunk + 2 → k ≡ length (head_list c g o) + later
+      → IsTransferOf g n o (later / w) t → IfSome found (AreCopies (steps g t) (later % w) most) → IfSome found (λ x. later % w + x.count < w)
+      → IfSome found (AreCopies (list_from c g n o) k most)
+  copies_there o k later w most t None width at there copies within = tt
+  copies_there o k later w most t (Some x) width at there copies within = record {
+    each = λ j lt.
+        let whole : later / w * w + (later % w + j) ≡ later + j = omega (arith, div-add-mod' later w) in
+        let small : later % w + j < w = omega (arith, within, lt) in
+        let same : (later + j) / w ≡ later / w = ap (λ m. m / w) (sym whole) ∙ div-mul-add (later / w) w (later % w + j) small in
+        let step : (later + j) % w ≡ later % w + j = ap (λ m. m % w) (sym whole) ∙ mod-mul-add (later / w) w (later % w + j) small in
+        get_transfer_of o (k + j) (later + j) w t (copy_at x j) width (omega (arith, at)) (rw (sym same) at there.0) (rw (sym same) at there.1) (rw (sym step) at (copies.each j lt));
+    some = copies.some;
+    at_most = copies.at_most;
+  }
+
   length-closing : (b : Bool) → length (closing g b) ≡ (if b then 2 else 1)
   length-closing true = refl
   length-closing false = refl
@@ -168,6 +186,12 @@ module _ (c : Grain) (g : Geometry) (n : ℕ) where
 
     pub few_at : (o : Opening) (k : ℕ) (op : Option Op) → op ≡ slice_get (list_from c g n o) k → IfSome op (λ _. k < 204000000)
     few_at o k it is = grind (arith, slice_get_within, few_list)
+
+    pub few_copies : (o : Opening) (k most : ℕ) (found : Option Copies) → IfSome found (AreCopies (list_from c g n o) k most) → IfSome found (λ x. k + x.count ≤ 204000000)
+    few_copies o k most None are = tt
+    few_copies o k most (Some x) are =
+        let last = few_at o (k + (x.count - 1)) (Some (copy_at x (x.count - 1))) (sym (are.each (x.count - 1) (omega (arith, are.some)))) in
+        omega (arith, last, are.some)
 
 -- whatever the size is that it writes
 pub same_length : (c : Grain) (g : Geometry) (n a b : ℕ) → length (new_list c g kinds.Test a n) ≡ length (new_list c g kinds.Test b n)

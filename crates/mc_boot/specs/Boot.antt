@@ -1,10 +1,10 @@
 -- How a boot on its way is seen: how far it has come, what a step does, and what is left of it.
 use Rattle.std.proofs.Common.{subst, sym, ◌∙◌}
 use Rattle.std.specs.Prelude.{Bool, Err, IfSome, List, None, Ok, Option, Result, Some, [], drop, false, if◌then◌else◌, length, take, true, ℕ, ◌*◌, ◌+◌, ◌<◌, ◌∷◌, ◌≡◌, ◌≤◌}
-use Rattle.mc_boot.specs.{Outcome.{applied, happening}, Plan.{Plan, PowerOn, new_list, plan, power_on, powered, resumed_list}, declared.boot.Boot.{Boot}}
+use Rattle.mc_boot.specs.{Copies.{AreCopies, whole_copy}, Outcome.{applied, happening}, Plan.{Plan, PowerOn, new_list, plan, power_on, powered, resumed_list}, declared.boot.Boot.{Boot}}
 use Rattle.mc_boot.specs.{declared.course.Course.{Course}, declared.course.Opening.{Opening}, declared.course.Opening.TheVariants.{New, Resumed}}
-use Rattle.mc_boot.specs.declared.transfer.Transfer.{Transfer}
-use Rattle.mc_flash.specs.{Flash.{Content, IsSized, sectors_of}, Geometry.{Geometry, in_pieces}}
+use Rattle.mc_boot.specs.{declared.transfer.Copies.{Copies}, declared.transfer.Transfer.{Transfer}}
+use Rattle.mc_flash.specs.{Flash.{CanTry, Content, IsSized, sectors_of}, Geometry.{Geometry, in_pieces}}
 use Rattle.mc_flash.specs.{Usage.{Counts, Does, Keeps, LeaveRoom, Seen, most_operations, most_saved, plus, saves}, declared.flash.FlashError.{FlashError}}
 use Rattle.mc_flash.specs.{declared.flash.Grain.{Grain}, declared.op.Op.{Op}, facts.Spends.{keeps_both}}
 use Rattle.mc_trailer.specs.{declared.tables.Rules.{Rules}, declared.tables.SwapType.{SwapType}}
@@ -79,6 +79,23 @@ StepsAlong (op ∷ rest) p old result q new = Turns rest p result q × Does op o
 -- A step of a boot that is at p, over a flash: the boot is at q then.
 abbrev pub Steps : Progress → Seen → Result (Unit {0}) FlashError → Progress → Seen → Type 0
 Steps p old result q new = StepsAlong p.to_come p old result q new
+
+-- After so many operations that happened.
+abbrev pub leapt : ℕ → Progress → Progress
+leapt k p = record { rules = p.rules; kind = p.kind; to_come = drop k p.to_come; count = p.count + k; faulted = p.faulted }
+
+-- Copies that are next were made as one; or that copy is refused, and nothing changed, or an allocation failed.
+abbrev pub Leaps : Copies → Progress → Seen → Result Bool FlashError → Progress → Seen → Type 0
+Leaps c p old (Ok true) q new =
+    (q ≡ leapt c.count p) × Does (whole_copy c c.count) old (Ok tt) new × IsSized old.geometry old.content
+    × CanTry old.geometry (whole_copy c c.count)
+Leaps c p old (Ok false) q new = (q ≡ p) × (new ≡ old)
+Leaps c p old (Err e) q new = (e ≡ errors.Memory) × (q ≡ p) × Does (whole_copy c c.count) old (Err e) new
+
+-- That of some copies; or there are none, and nothing changed.
+abbrev pub LeapsOn : Progress → Seen → Result Bool FlashError → Progress → Seen → Type 0
+LeapsOn p old (Ok false) q new = (q ≡ p) × (new ≡ old)
+LeapsOn p old result q new = (c : Copies) × AreCopies p.to_come 0 c.count c × Leaps c p old result q new
 
 -- Where a boot is on its way: what was made of the plan of the flash at power-on, and what is still to come.
 

@@ -1,6 +1,7 @@
 pub mod Plan
 pub mod Outcome
 pub mod SharedTail
+pub mod Copies
 pub mod Twins
 pub mod Restart
 pub mod WholeSwap

@@ -2,6 +2,7 @@
 pub mod Sizes
 pub mod Run
 pub mod Steps
+pub mod Leaps
 pub mod Writes
 pub mod Confirm
 pub mod Lengths

@@ -1,9 +1,10 @@
 //! The boot as a machine that makes one operation at a time.
-ghost use Rattle.std.specs.Prelude.{◌≡◌, ◌<◌, ◌≤◌, [], length, slice_get, Some, ◌↔◌, IsSome, IfSome, MatchResult};
+ghost use Rattle.std.specs.Prelude.{◌≡◌, ◌+◌, ◌<◌, ◌≤◌, [], length, slice_get, Some, ◌↔◌, IsSome, IfErr, IfSome, MatchResult, OnOk};
 ghost use Rattle.mc_trailer.specs.Trailer.{highest_entry};
 ghost use Rattle.mc_flash.specs.Geometry.{Geometry};
 ghost use Rattle.mc_flash.specs.Flash.{Content, CanTry};
-ghost use Rattle.mc_flash.specs.Usage.{Does, Keeps, Spends, Allows};
+ghost use Rattle.mc_flash.specs.Usage.{Does, Keeps, RanOut, Spends, Allows};
+ghost use Rattle.mc_boot.specs.facts.Steps.{Comes};
 ghost use Rattle.mc_trailer.specs.declared.tables.Rules.{Rules};
 ghost use Rattle.mc_boot.specs.Joins.{IsCut, operations_kept};
 ghost use Rattle.mc_boot.specs.Boot.{progress, IsBootOf, begun};
@@ -15,7 +16,7 @@ use crate::image::Images;
 use crate::kept_operations::count_kept;
 use crate::known::KnownImage;
 use crate::outcome::Outcome;
-use crate::transfer::first_left;
+use crate::transfer::{Copies, first_left};
 use crate::writes::is_test;
 use mc_flash::{Flash, FlashError, Layout, Op, Slot};
 use mc_trailer::{Flag, Rules, SwapType, Trailer, highest_entry, resumes, swap_type};
@@ -52,7 +53,8 @@ fn confirms(kind: SwapType, image_ok: Flag) -> bool
 }
 
 impl Boot {
-    ghost use Rattle.mc_boot.specs.Boot.{all_of, to_come, progress, IsBootOf, Steps, begun, HasCome, GoesOn, IsCold, left_of, CountsOn};
+    ghost use Rattle.mc_boot.specs.Boot.{all_of, to_come, progress, IsBootOf, Steps, Leaps, LeapsOn, begun, HasCome, GoesOn, IsCold, left_of, CountsOn};
+    ghost use Rattle.mc_boot.specs.Copies.{AreCopies, whole_copy};
     ghost use Rattle.mc_boot.specs.Outcome.{shown, report, outcome_of};
 
     // A boot with no operations.
@@ -251,6 +253,63 @@ impl Boot {
         self.next_op()
     }
 
+    // The copies that are next, at most so many.
+    pub(crate) fn copies(&self, most: u32) -> Option<Copies>
+        ensures copies { IfSome result (AreCopies (to_come self.now) 0 most) }
+        ensures inside { (g : Geometry) → IsBootOf g self.now → IfSome result (λ copies. CanTry g
+            (whole_copy copies copies.count)) }
+        ensures few { IfSome result (λ copies. self.now.done + copies.count ≤ 204000000) }
+    {
+        if self.faulted {
+            return None;
+        }
+        match &self.course {
+            None => None,
+            Some(course) => {
+                // Reading a field gives the prover that it is a layout.
+                let _unit = course.layout.unit();
+                course.copies(self.done, most)
+            }
+        }
+    }
+
+    // Makes the copies that are next as one, and returns whether they were not refused.
+    pub(crate) fn leap<F: Flash>(
+        &mut self,
+        flash: &mut F,
+        copies: &Copies,
+    ) -> Result<bool, FlashError>
+        requires copies { AreCopies (to_come self.old) 0 copies.now.count copies.now }
+        requires inside { CanTry (F.seen flash.old).geometry (whole_copy copies.now
+            copies.now.count) }
+        requires few { self.old.done + copies.now.count ≤ 204000000 }
+        ensures leaps { Leaps copies.now (progress self.old) (F.seen flash.old) result
+            (progress self.new) (F.seen flash.new) }
+        ensures whole { all_of self.new ≡ all_of self.old }
+        ensures layout { (g : Geometry) → IsBootOf g self.old → IsBootOf g self.new }
+        ensures keeps { Keeps (F.seen flash.old) (F.seen flash.new) }
+    {
+        // Reading a field gives the prover that it is a layout, and each slot how long it is.
+        let _sector = flash.layout().sector();
+        let _primary = flash.read(Slot::Primary);
+        let _secondary = flash.read(Slot::Secondary);
+        let whole = Op::Copy(
+            copies.from,
+            copies.at,
+            copies.to,
+            copies.offset,
+            copies.count * copies.len,
+        );
+        match perform(flash, whole) {
+            Ok(()) => {
+                self.done += copies.count;
+                Ok(true)
+            }
+            Err(FlashError::NotErased) => Ok(false),
+            Err(FlashError::Memory) => Err(FlashError::Memory),
+        }
+    }
+
     /// Makes the next operation. At the end it does nothing and returns Ok.
     ///
     /// # Errors
@@ -282,6 +341,43 @@ impl Boot {
                 self.faulted = true;
                 Err(FlashError::NotErased)
             }
+            Err(FlashError::Memory) => Err(FlashError::Memory),
+        }
+    }
+
+    // Makes the copies that are next as one, if there are some, and returns whether it did.
+    fn leap_on<F: Flash>(&mut self, flash: &mut F) -> Result<bool, FlashError>
+        requires { IsBootOf (F.seen flash.old).geometry self.old }
+        ensures leaps { LeapsOn (progress self.old) (F.seen flash.old) result (progress self.new)
+            (F.seen flash.new) }
+        ensures whole { all_of self.new ≡ all_of self.old }
+        ensures layout { IsBootOf (F.seen flash.new).geometry self.new }
+        ensures keeps { Keeps (F.seen flash.old) (F.seen flash.new) }
+    {
+        match self.copies(u32::MAX) {
+            Some(copies) => self.leap(flash, &copies),
+            None => Ok(false),
+        }
+    }
+
+    // Makes the next operation, or all copies that are next as one.
+    fn stride<F: Flash>(&mut self, flash: &mut F) -> Result<(), FlashError>
+        requires layout { IsBootOf (F.seen flash.old).geometry self.old }
+        requires room { Allows (left_of (F.seen flash.old).geometry (progress self.old))
+            (F.seen flash.old) }
+        ensures goes { GoesOn self.old (F.seen flash.old) self.new (F.seen flash.new) }
+        ensures counts { CountsOn (progress self.old) (progress self.new) (F.seen flash.old)
+            (F.seen flash.new) }
+        ensures ok { OnOk result (Comes (progress self.old) (progress self.new) (F.seen flash.old)
+            (F.seen flash.new)) }
+        ensures out { IfErr result (λ e. (e ≡ FlashError.Memory) × RanOut (F.seen flash.old)
+            (F.seen flash.new)) }
+    {
+        if self.leap_on(flash)? {
+            return Ok(());
+        }
+        match self.step(flash) {
+            Ok(()) | Err(FlashError::NotErased) => Ok(()),
             Err(FlashError::Memory) => Err(FlashError::Memory),
         }
     }
@@ -320,10 +416,7 @@ impl Boot {
             (F.seen flash.new) }
     {
         'steps: while self.peek().is_some() {
-            match self.step(flash) {
-                Ok(()) | Err(FlashError::NotErased) => {}
-                Err(FlashError::Memory) => return Err(FlashError::Memory),
-            }
+            self.stride(flash)?;
         }
         Ok(())
     }

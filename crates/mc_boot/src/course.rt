@@ -5,7 +5,7 @@ ghost use Rattle.mc_flash.specs.Flash.{CanTry};
 ghost use Rattle.mc_boot.specs.inner.Section.{counted, first_of, head_list, is_confirmed, preparation_sections, resumed_sections, swap_sections, when};
 
 use crate::section::{Counted, Section, len_of, op_of};
-use crate::transfer::{transfer_at, transfer_len, transfer_op};
+use crate::transfer::{Copies, Transfer, copies_of, transfer_at, transfer_len, transfer_op};
 use crate::writes::{is_revert, is_test, number_of, write_len};
 use mc_flash::{Grain, Layout, Op, Slot};
 use mc_trailer::{Field, SwapType};
@@ -94,7 +94,9 @@ fn when(wanted: bool, section: Section) -> Section
 }
 
 impl Course {
-    ghost use Rattle.mc_boot.specs.Boot.{course_list, list_from};
+    ghost use Rattle.mc_boot.specs.Boot.{course_list, list_from, IsInside};
+    ghost use Rattle.mc_boot.specs.Copies.{AreCopies, whole_copy};
+    ghost use Rattle.mc_boot.specs.inner.Section.{IsTransferOf};
 
     /// The swap of so many sectors that begins so, in a layout by the pieces in which sectors are copied.
     pub fn new(grain: Grain, layout: Layout, sectors: u32, opening: Opening) -> Course
@@ -201,13 +203,38 @@ impl Course {
         // Reading a field gives the prover that it is a layout.
         let _unit = self.layout.unit();
         let later = index.checked_sub(self.head)?;
+        let transfer = self.transfer_of(later)?;
+        Some(transfer_op(&self.layout, transfer, self.width, later % self.width))
+    }
+
+    // The transfer of the operation that has so many before it, of the transfers.
+    fn transfer_of(&self, later: u32) -> Option<Transfer>
+        ensures there { IfSome result (λ transfer. IsTransferOf self.now.layout self.now.sectors
+            self.now.opening (later / self.now.width) transfer) }
+        ensures inside { IfSome result (IsInside self.now.layout) }
+    {
+        // Reading a field gives the prover that it is a layout.
+        let _unit = self.layout.unit();
         let number = later / self.width;
         if self.transfers() <= number {
             return None;
         }
         let first = self.opening.first();
-        let transfer = transfer_at(&self.layout, self.sectors, first + number);
-        Some(transfer_op(&self.layout, transfer, self.width, later % self.width))
+        Some(transfer_at(&self.layout, self.sectors, first + number))
+    }
+
+    /// The copies of a transfer from that operation on, at most so many, if it is one of them.
+    pub fn copies(&self, index: u32, most: u32) -> Option<Copies>
+        ensures copies { IfSome result (AreCopies (course_list self.now) index most) }
+        ensures inside { IfSome result (λ copies. CanTry self.now.layout (whole_copy copies
+            copies.count)) }
+        ensures few { IfSome result (λ copies. index + copies.count ≤ 204000000) }
+    {
+        // Reading a field gives the prover that it is a layout.
+        let _unit = self.layout.unit();
+        let later = index.checked_sub(self.head)?;
+        let transfer = self.transfer_of(later)?;
+        copies_of(&self.layout, transfer, self.width, later % self.width, most)
     }
 
     // The operation of a number, by the sections.

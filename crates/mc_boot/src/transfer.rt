@@ -1,10 +1,11 @@
 //! The transfers of a swap, and the operations of each.
-ghost use Rattle.std.specs.Prelude.{◌≡◌, ◌+◌, ◌-◌, ◌*◌, ◌/◌, ◌<◌, ◌≤◌, slice_get, Some};
+ghost use Rattle.std.specs.Prelude.{◌≡◌, ◌+◌, ◌-◌, ◌*◌, ◌/◌, ◌<◌, ◌≤◌, slice_get, IfSome, Some};
 ghost use Rattle.mc_trailer.specs.Trailer.{one_unit};
 ghost use Rattle.mc_flash.specs.Geometry.{greatest_sectors, IsLayout};
 ghost use Rattle.mc_flash.specs.Flash.{sectors_of, CanTry};
 ghost use Rattle.mc_boot.specs.Plan.{transfers, steps, copy_of, entry_of, first_left};
 ghost use Rattle.mc_boot.specs.Boot.{IsInside};
+ghost use Rattle.mc_boot.specs.Copies.{AreCopies, whole_copy};
 
 use mc_flash::{Bytes16, Layout, Op, Slot};
 use mc_trailer::entry_place;
@@ -116,6 +117,49 @@ fn entry_write(layout: &Layout, transfer: Transfer) -> Op
         entry_place(layout, transfer.entry),
         one_unit(layout, 1),
     )
+}
+
+/// Copies of as many bytes each, one after another: each goes on where the one before it ended.
+#[derive(Clone, Copy)]
+pub struct Copies {
+    pub from: Slot,
+    pub at: u32,
+    pub to: Slot,
+    pub offset: u32,
+    /// How many bytes each copies.
+    pub len: u32,
+    /// How many they are.
+    pub count: u32,
+}
+
+/// The copies of a transfer, which has so many operations, from that one on, at most so many, if it is a copy.
+pub fn copies_of(
+    layout: &Layout,
+    transfer: Transfer,
+    width: u32,
+    index: u32,
+    most: u32,
+) -> Option<Copies>
+    requires inside { IsInside layout.now transfer }
+    requires width { width ≡ layout.now.sector / layout.now.chunk + 2 }
+    ensures copies { IfSome result (AreCopies (steps layout.now transfer) index most) }
+    ensures within { IfSome result (λ copies. index + copies.count < width) }
+    ensures inside { IfSome result (λ copies. CanTry layout.now (whole_copy copies copies.count)) }
+{
+    if index == 0 || width - 1 <= index || most == 0 {
+        return None;
+    }
+    let chunk = index - 1;
+    let at = chunk_offset(layout, transfer.from, transfer.from_sector, chunk);
+    let offset = chunk_offset(layout, transfer.to, transfer.to_sector, chunk);
+    Some(Copies {
+        from: transfer.from,
+        at,
+        to: transfer.to,
+        offset,
+        len: layout.chunk(),
+        count: most.min(width - 1 - index),
+    })
 }
 
 /// How many operations a transfer has.

@@ -5,3 +5,4 @@ pub mod Done
 pub mod Spends
 pub mod Changes
 pub mod Pieces
+pub mod Copies

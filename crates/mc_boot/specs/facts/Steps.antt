@@ -12,6 +12,11 @@ pub record StepSpends (p q : Progress) (old new : Seen) : Type 0 where
   pub limits : new.usage.limits ≡ old.usage.limits
   pub failed : new.usage.failed ≡ old.usage.failed
 
+-- Where something was to come, less is to come now.
+pub record Comes (p q : Progress) (old new : Seen) : Type 0 where
+  pub spends : StepSpends p q old new
+  pub less : 0 < length p.to_come → length q.to_come < length p.to_come
+
 -- ---- one after another
 
 -- Where the layout stays.
@@ -61,6 +66,13 @@ module _ (p q : Progress) (old new : Seen) where
       → StepSpends p q old new
   step_spends result other steps = grind (arith, stays_spent, next_spent, done_notes, none_spent)
 
+  -- Where something was to come, less is to come then.
+  pub step_less : (result : Result (Unit {0}) FlashError) → (result ≡ Err errors.Memory → ⊥) → Steps p old result q new → Comes p q old new
+  step_less result other steps = record { spends = step_spends result other steps; less = λ some. fewer result other steps some }
+    where
+      fewer : (result : Result (Unit {0}) FlashError) → (result ≡ Err errors.Memory → ⊥) → Steps p old result q new → 0 < length p.to_come → length q.to_come < length p.to_come
+      fewer result other steps some = grind arith
+
   -- With room for all that is to come an allocation failed only where it fails a flash that does not count.
   pub step_ran_out : (result : Result (Unit {0}) FlashError) → result ≡ Err errors.Memory → Steps p old result q new
       → LeaveRoom old.usage.counts (left_of old.geometry p) (room_of old.usage.limits) → RanOut old new
@@ -73,6 +85,9 @@ module _ (p q : Progress) (old new : Seen) where
       let c = step_counts result steps in
       let limits = (step_spends result other steps).limits in
       grind (arith, limits)
+
+  pub comes_allows : new.geometry ≡ old.geometry → CountsOn p q old new → Comes p q old new → Allows (left_of old.geometry p) old → Allows (left_of new.geometry q) new
+  comes_allows same counts comes allows = let limits = comes.spends.limits in grind (arith, limits)
 
   -- After a refusal nothing is to come, and no operation more happened.
   pub refused_here : (result : Result (Unit {0}) FlashError) → result ≡ Err errors.NotErased → Steps p old result q new

@@ -1,6 +1,6 @@
 -- The sections of a course: how many operations each has, and which.
-use Rattle.std.specs.Prelude.{Bool, List, [], drop, false, flat_map, if◌then◌else◌, map, max, not, ℕ, ◌*◌, ◌++◌, ◌+◌, ◌-◌, ◌/◌, ◌∷◌, ◌≡◌}
-use Rattle.mc_boot.specs.{Plan.{is_revert, is_test, number_of, opening_writes, preparation_writes, steps, trailer_erases, transfers, write, write_count}, declared.course.Opening.{Opening}, declared.course.Opening.TheVariants.{New, Resumed}, declared.section.Counted.{Counted}}
+use Rattle.std.specs.Prelude.{Bool, List, Some, [], drop, false, flat_map, if◌then◌else◌, map, max, not, slice_get, ℕ, ◌*◌, ◌++◌, ◌+◌, ◌-◌, ◌/◌, ◌<◌, ◌∷◌, ◌≡◌}
+use Rattle.mc_boot.specs.{Plan.{is_revert, is_test, number_of, opening_writes, preparation_writes, steps, trailer_erases, transfers, write, write_count}, declared.course.Opening.{Opening}, declared.course.Opening.TheVariants.{New, Resumed}, declared.section.Counted.{Counted}, declared.transfer.Transfer.{Transfer}}
 use Rattle.mc_boot.specs.{declared.section.Section.{Section}, declared.section.Section.TheVariants.{Nothing, Erases, Flag, Size, Magic, Transfers}}
 use Rattle.mc_flash.specs.{Geometry.{Geometry, trailer_sectors}, declared.flash.Grain.{Grain}, declared.op.Op.{Op}, declared.op.Op.TheVariants.{Program}}
 use Rattle.mc_flash.specs.declared.op.Slot.TheVariants.{Primary, Secondary}
@@ -67,6 +67,10 @@ head_list c g (Resumed first erases image_ok) = if erases then trailer_erases g 
 abbrev pub first_of : Opening → ℕ
 first_of (New kind size) = 0
 first_of (Resumed first erases image_ok) = first
+
+-- That is the transfer of that number, among those that are left.
+abbrev pub IsTransferOf : Geometry → ℕ → Opening → ℕ → Transfer → Type 0
+IsTransferOf g n o number t = (number < 3 * n - first_of o) × (slice_get (transfers g n) (first_of o + number) ≡ Some t)
 
 abbrev pub is_confirmed : Opening → Bool
 is_confirmed (New kind size) = false
