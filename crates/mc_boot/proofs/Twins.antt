@@ -4,10 +4,10 @@ use Rattle.std.proofs.{Common.{ap, arith, inl, inr, subst, sym, ◌∙◌}, Math
 use Rattle.std.specs.Int.{div_ceil}
 use Rattle.std.specs.Prelude.{Bool, List, None, Some, [], false, if◌then◌else◌, length, nat_lt, not, option_map, refl, slice_get, suc, take, true, zero, ℕ, ◌*◌, ◌++◌, ◌+◌, ◌-◌, ◌<◌, ◌∷◌, ◌≡◌, ◌≤◌, ◌||◌}
 use Rattle.mc_boot.proofs.{CourseJoins.{sectors_pieces}, Courses.{get_prefix, some_trailer}, Erased.{blank_noop, erased_here}, Meets.{Fit, SameOutside, Sector, WritesIn, blank_same, erase_in, erase_of, op_outside}, Sections.{get_erase}}
-use Rattle.mc_boot.specs.{Boot.{HasCome, Progress, stepped}, Outcome.{applied, at, happening, is_faulted, left_by, ops_of, outcome_of, report}}
+use Rattle.mc_boot.specs.{Boot.{HasCome, Progress, leapt, stepped}, Copies.{AreCopies, whole_copy}, Outcome.{applied, at, happening, is_faulted, left_by, ops_of, outcome_of, report}}
 use Rattle.mc_boot.specs.Plan.{Plan, PowerOn, again, images_of, is_revert, new_plan, new_swap, plan, plan_with, trailer_erase, trailer_erases}
-use Rattle.mc_boot.specs.{Twins.{BeginAlike, ErasesFirst, HasTwin}, declared.image.Images.{Images}, facts.Run.{come_at, come_next, next_happens}, inner.Idle.{changes_nothing}}
-use Rattle.mc_flash.specs.{Flash.{Content, IsSized, apply, byte, bytes_of, sectors_of, size_of}, Geometry.{Geometry, IsLayout, greatest_sectors, in_pieces, trailer_bytes, trailer_sectors}}
+use Rattle.mc_boot.specs.{Twins.{BeginAlike, ErasesFirst, HasTwin}, declared.image.Images.{Images}, declared.transfer.Copies.{Copies}, facts.Leaps.{come_part, part_is}, facts.Run.{come_at, come_next, next_happens}, inner.Idle.{changes_nothing}}
+use Rattle.mc_flash.specs.{Flash.{CanTry, Content, IsSized, apply, byte, bytes_of, sectors_of, size_of}, Geometry.{Geometry, IsLayout, greatest_sectors, in_pieces, trailer_bytes, trailer_sectors}}
 use Rattle.mc_flash.specs.{declared.flash.Grain.{Grain}, declared.op.Op.{Op}, declared.op.Op.TheVariants.{Copy, Erase}, declared.op.Slot.{Slot}}
 use Rattle.mc_flash.specs.{declared.op.Slot.TheVariants.{Primary, Secondary}, facts.Changes.{sized_is}, facts.Layouts.{data_before_trailer, data_end, data_sectors, sector_inside, trailer_leaves_one}}
 use Rattle.mc_trailer.specs.{Tables.{is_resumed, table_of}, Trailer.{greatest, is_written, trailer_of}}
@@ -159,31 +159,47 @@ module _ (x : PowerOn) (u t : Content) (e : Sector) (same : erase_in x.geometry 
   pub begin_alike : BeginAlike (again x u) (again x t)
   begin_alike = record { plan_is = plans; ops_are = ops_same; later = later; outcome_is = outcome }
 
--- The lemma.
-module _ (x : PowerOn) (p : Progress) (u : Content) (ok : IsLayout x.geometry) (sized : IsSized x.geometry u) (come : HasCome x p u) (early : p.count < length (ops_of x)) where
-  pub copy_twin : (from to : Slot) (at offset len : ℕ) → slice_get p.to_come 0 ≡ Some (Copy from at to offset len)
-      → ErasesFirst x.geometry (plan (again x u)).list to offset len → HasTwin x u p.count
-  copy_twin from to at offset len next erases =
+-- A content that a copy leaves which the next boot erases first.
+module _ (x : PowerOn) (u t : Content) (ok : IsLayout x.geometry) (sized : IsSized x.geometry u) where
+  pub copied_twin : (done : ℕ) (from to : Slot) (source offset len : ℕ) → at x done ≡ Some t → apply x.geometry (Copy from source to offset len) u ≡ Some t
+      → ErasesFirst x.geometry (plan (again x u)).list to offset len → HasTwin x u done
+  copied_twin done from to source offset len there made erases =
       let g = x.geometry in
       let e : Sector = record { slot = to; index = erases.sector } in
-      let op : Op = Copy from at to offset len in
-      let rest = begins_with p.to_come op next in
-      let made = next_happens x p u op rest.0 come rest.1 early in
-      let t = made.0 in
+      let op : Op = Copy from source to offset len in
       let writes : WritesIn g (e ∷ []) op = record { index = erases.sector; listed = inl (refl, refl); from = erases.from; to = erases.to } in
       let inside = sector_inside g to erases.sector (omega (arith, erases.below)) in
       let fits : Fit g (e ∷ []) u = (omega (arith, inside, sized_is g u to sized), tt) in
-      let differ = op_outside g (e ∷ []) op u t writes fits made.1 in
+      let differ = op_outside g (e ∷ []) op u t writes fits made in
       let resumed = goes_on x u to erases.sector ok erases.first erases.below in
       record {
         twin = t;
-        twin_is = come_at x (stepped p rest.0) t (come_next x p u t op rest.0 come rest.1 made.1);
+        twin_is = there;
         sized = sized_too g e u t ok sized erases.below differ;
         alike = begin_alike x u t e (blank_same g (e ∷ []) u t fits differ) (sym (same_plan g e u t ok sized erases.below differ x.rules resumed)) erases.first;
       }
 
+-- Operations after which the same boot begins.
+module _ (x : PowerOn) (p : Progress) (u : Content) (ok : IsLayout x.geometry) (sized : IsSized x.geometry u) (come : HasCome x p u) where
+  pub copies_twin : (c : Copies) (t : Content) → CanTry x.geometry (whole_copy c c.count) → AreCopies p.to_come 0 c.count c → apply x.geometry (whole_copy c c.count) u ≡ Some t
+      → ErasesFirst x.geometry (plan (again x u)).list c.to c.offset (c.count * c.len) → (j : ℕ) → 0 < j → j ≤ c.count → HasTwin x u (p.count + j)
+  copies_twin c t can are is erases j some le =
+      let part = part_is x c p u t sized can are is come j le in
+      let there = come_at x (leapt j p) part.0 (come_part x c p u t sized can are is come j part.0 some le part.1) in
+      let less : j * c.len ≤ c.count * c.len = mul-le-mul_right c.len le in
+      copied_twin x u part.0 ok sized (p.count + j) c.from c.to c.at c.offset (j * c.len) there part.1
+      (record { sector = erases.sector; first = erases.first; below = erases.below; from = erases.from; to = omega (arith, erases.to, less) })
+
+  pub copy_twin : p.count < length (ops_of x) → (from to : Slot) (source offset len : ℕ) → slice_get p.to_come 0 ≡ Some (Copy from source to offset len)
+      → ErasesFirst x.geometry (plan (again x u)).list to offset len → HasTwin x u (p.count + 1)
+  copy_twin early from to source offset len next erases =
+      let op : Op = Copy from source to offset len in
+      let rest = begins_with p.to_come op next in
+      let made = next_happens x p u op rest.0 come rest.1 early in
+      copied_twin x u made.0 ok sized (p.count + 1) from to source offset len (come_at x (stepped p rest.0) made.0 (come_next x p u made.0 op rest.0 come rest.1 made.1)) made.1 erases
+
   pub erase_twin : (slot : Slot) (sector : ℕ) → slice_get p.to_come 0 ≡ Some (Erase slot sector) → sector < sectors_of x.geometry slot
-      → changes_nothing x.geometry u (Erase slot sector) ≡ true → HasTwin x u p.count
+      → changes_nothing x.geometry u (Erase slot sector) ≡ true → HasTwin x u (p.count + 1)
   unfolding apply
   erase_twin slot sector next below idle =
       let g = x.geometry in

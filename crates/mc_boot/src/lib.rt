@@ -29,4 +29,4 @@ pub use outcome::{BootResult, Outcome};
 pub use restart::restart_law;
 pub use shared_tail::SharedTail;
 pub use swap::swap_operations;
-pub use twin::has_twin;
+pub use twin::{has_twin, pass_twins};

@@ -57,6 +57,16 @@ impl FlashTree for TwoRounds<'_> {
         false
     }
 
+    fn pass_twins<F: Flash>(
+        self,
+        _flash: &mut F,
+        _at: &mut ChildBoot,
+        _child: &Both,
+        _most: u32,
+    ) -> Result<u32, AllocError> {
+        Ok(0)
+    }
+
     fn first_child<F: Flash>(self, flash: &mut F, summary: &Both) -> Result<ChildBoot, AllocError> {
         let later = summary.second;
         match summary.round {

@@ -1,6 +1,6 @@
 -- What is told at the children of one node, and the rows of the nodes whose children lie among them.
 use Rattle.std.proofs.{Common.{ap, arith, inl, inr, refl, subst, sym, ◌∙◌}, lemmas.List.{same_from_push}}
-use Rattle.std.specs.{List.{slice_get}, Prelude.{IfSome, List, None, Option, Some, [], length, ℕ, ◌++◌, ◌+◌, ◌-◌, ◌∷◌, ◌≡◌, ◌⊎◌}}
+use Rattle.std.specs.{List.{slice_get}, Prelude.{IfSome, List, None, Option, Some, [], length, ℕ, ◌++◌, ◌+◌, ◌∷◌, ◌≡◌, ◌⊎◌}}
 use Rattle.mc_boot.specs.declared.shared_tail.SharedTail.{SharedTail}
 use Rattle.mc_explore.specs.{declared.at_cuts.AtCuts.{AtCuts}, declared.at_cuts.Joined.{Joined}, declared.run.Run.{Run}, facts.Children.{child_here}, inner.Runs.{AreOf, begin_of}}
 use Rattle.mc_explore.proofs.Runs.{of_last, of_more}
@@ -45,7 +45,8 @@ module _ {O : Type 0} (IsTold : List ℕ → O → Type 0) where
     told_turned (inl same) are = subst (AreTold IsTold) (sym same) are
     told_turned (inr none) are = told_none new none
 
-    module _ (are : AreTold IsTold old) (told : O) (here : IsTold (old.parent_path ++ (old.first + old.count) ∷ []) told) (first : new.first ≡ old.first) (path : new.parent_path ≡ old.parent_path) where
+    module _ (are : AreTold IsTold old) (told : O) (here : IsTold (old.parent_path ++ (old.first + old.count) ∷ []) told) (first : new.first ≡ old.first)
+        (path : new.parent_path ≡ old.parent_path) where
       abbrev Of : ℕ → Run O → Type 0
       Of i run = IsTold (old.parent_path ++ (old.first + i) ∷ []) run.of
 

@@ -1,15 +1,15 @@
 -- From one cut of a boot to the next, and the summary of the flash there.
-use Rattle.std.specs.Prelude.{◌≡◌, ℕ, ◌+◌, ◌<◌, List, [], ◌∷◌, ◌++◌, length, None, Option, Some, Result, Ok, Err, IfSome, refl, suc}
+use Rattle.std.specs.Prelude.{◌≡◌, ℕ, ◌+◌, ◌<◌, ◌≤◌, List, [], ◌∷◌, ◌++◌, length, None, Option, Some, Result, Ok, Err, IfSome, refl, suc, zero}
 use Rattle.std.proofs.Common.{arith, sym, ap, subst, ◌∙◌}
 use Rattle.mc_flash.specs.{Flash.{Content}, Geometry.{Geometry}, Usage.{Seen, Keeps, Spends, LeaveRoom, plus}, declared.op.Op.{Op}}
 use Rattle.mc_flash.specs.declared.flash.FlashError.{FlashError}
 use Rattle.mc_flash.specs.declared.flash.FlashError.TheVariants as errors
 use Rattle.mc_trailer.specs.declared.tables.Rules.{Rules}
-use Rattle.mc_boot.specs.{Joins.{IsCut}, Boot.{IsCold, Progress, IsBootOf, Steps, all_of, begun, progress, left_of, HasCome}}
+use Rattle.mc_boot.specs.{Joins.{IsCut}, Boot.{GoesOn, IsCold, Progress, IsBootOf, Steps, all_of, begun, progress, left_of, HasCome}}
 use Rattle.mc_boot.specs.{Outcome.{Report, at, outcome_of, shown, left_by, ops_of}, SharedTail.{IsSharedTail}, Twins.{HasTwin}, declared.shared_tail.SharedTail.{SharedTail}}
 use Rattle.mc_boot.specs.{Plan.{Plan, plan, PowerOn, again, power_on, powered}, facts.Run.{come_begun, come_left, come_ops}}
 use Rattle.mc_boot.specs.{facts.Steps.{refused_here, step_counts, step_spends, stepped_here}, declared.boot.Boot.{Boot}, declared.outcome.Outcome.{Outcome}}
-use Rattle.mc_walk.specs.TreeModel.{IsAt, IsChildOf, IsTwin, HasNext, ReachesNext}
+use Rattle.mc_walk.specs.TreeModel.{AreTwinsOn, IsAt, IsChildOf, IsTwin, HasNext, ReachesNext}
 use Rattle.mc_tree.specs.inner.Weights.{AreTwins}
 use Rattle.mc_explore.specs.{facts.Tails.{shared_like}, inner.LastCuts.{AreLike, AreSame, boot_at}, inner.OneRound.{at_cut, boots, CanPass, GoesOnIn, IsOf, IsSummary, Passes, one_round}, Schedules.{EndsWith}}
 use Rattle.mc_explore.specs.{declared.one_round.Summary.{Summary}, facts.Occurring.{at_is, at_zero, come_lands, lands_at}}
@@ -57,15 +57,13 @@ module _ (start : PowerOn) where
         let h = refused_here (progress b) (progress b') old new result refused steps in
         omega (arith, early_here, h.1, come_ops (power_on x.rules old.geometry x.content) (progress b') new.content (come x.rules x.content come_here) h.0)
 
-    -- It happens, and the boot has made one more.
-    pub went_on : (v : Unit {0}) → Steps (progress b) old (Ok v) (progress b') new → ComesOn old (progress b) new (progress b') → all_of b' ≡ all_of b → IsBootOf new.geometry b'
-        → Keeps old new → IsAt (one_round start) x (i + 1) b' new
-    went_on v steps come whole layout keeps =
-        let some = some_to_come x (progress b) (at_cut x i) at.on_is.1.come (omega (arith, early, at.on_is.1.count_is)) in
-        let count : b'.done ≡ i + 1 = stepped_here (progress b) (progress b') old new (Ok v) v refl some steps ∙ ap (λ n. n + 1) at.on_is.1.count_is in
+    -- The boot has made so many more.
+    pub went_by : (k : ℕ) → b'.done ≡ i + k → ComesOn old (progress b) new (progress b') → all_of b' ≡ all_of b → IsBootOf new.geometry b' → Keeps old new
+        → IsAt (one_round start) x (i + k) b' new
+    went_by k count come whole layout keeps =
         let P : Geometry → Type 0 = λ y. HasCome (power_on x.rules y x.content) (progress b') new.content in
         let come' : HasCome x (progress b') new.content = subst P layout_here (come x.rules x.content come_here) in
-        let there : new.content ≡ at_cut x (i + 1) = come_lands x (progress b') new.content come' ∙ ap (at_cut x) count in
+        let there : new.content ≡ at_cut x (i + k) = come_lands x (progress b') new.content come' ∙ ap (at_cut x) count in
         record {
           on_is = (
             at.on_is.0,
@@ -79,6 +77,13 @@ module _ (start : PowerOn) where
           content_is = there;
           layout_is = keeps.geometry ∙ at.layout_is;
         }
+
+    -- It happens, and the boot has made one more.
+    pub went_on : (v : Unit {0}) → Steps (progress b) old (Ok v) (progress b') new → ComesOn old (progress b) new (progress b') → all_of b' ≡ all_of b → IsBootOf new.geometry b'
+        → Keeps old new → IsAt (one_round start) x (i + 1) b' new
+    went_on v steps come whole layout keeps =
+        let some = some_to_come x (progress b) (at_cut x i) at.on_is.1.come (omega (arith, early, at.on_is.1.count_is)) in
+        went_by 1 (stepped_here (progress b) (progress b') old new (Ok v) v refl some steps ∙ ap (λ n. n + 1) at.on_is.1.count_is) come whole layout keeps
 
   -- What a step leaves on the way to the next cut.
   pub passes : (b b' : Boot) (old new : Seen) (result : Result (Unit {0}) FlashError) → CanPass start b old
@@ -145,13 +150,13 @@ module _ (start : PowerOn) where
     left = lefts x (at_cut x i) (cut_here x i b f parent here.at_is here.some here.parent_is.1) here.child_is.1.layout_is here.child_is.1.boot_is;
   }
 
-  -- After a cut one operation later the same boot begins.
-  pub twin_here : (x : PowerOn) (i : ℕ) (b : Boot) (child : Summary) → (one_round start).IsOn x i b → (one_round start).IsSummary (boots.child x i) child → HasTwin x (at_cut x i) b.done
-      → IsTwin (one_round start) x i child
-  twin_here x i b child on is has =
+  -- After a cut so many operations later the same boot begins.
+  pub twin_at : (x : PowerOn) (i j : ℕ) (b : Boot) (child : Summary) → (one_round start).IsOn x i b → (one_round start).IsSummary (boots.child x i) child → HasTwin x (at_cut x i) (b.done + j)
+      → (one_round start).IsSummary (boots.child x (i + j)) child × AreTwins boots (boots.child x (i + j)) (boots.child x i)
+  twin_at x i j b child on is has =
       let u : PowerOn = boots.child x i in
       let t : PowerOn = again x has.twin in
-      let there : has.twin ≡ at_cut x (i + 1) = lands_at x has.twin (i + 1) (ap (λ n. at x (n + 1)) (sym on.1.count_is) ∙ has.twin_is) in
+      let there : has.twin ≡ at_cut x (i + j) = lands_at x has.twin (i + j) (ap (λ n. at x (n + j)) (sym on.1.count_is) ∙ has.twin_is) in
       let P : Content → Type 0 = λ s. (one_round start).IsSummary (again x s) child × AreTwins boots (again x s) u in
       let both : P has.twin = (
         (
@@ -169,11 +174,30 @@ module _ (start : PowerOn) where
           width = ap (λ (l : List Op). length l) (sym has.alike.ops_are);
           one = ap (again t) (sym (at_zero t));
           other = ap (again u) (sym (at_zero u));
-          later = λ j. ap (again x) (lands_at u (at_cut t (suc j)) (suc j) (has.alike.later j ∙ at_is t (suc j)));
+          later = λ n. ap (again x) (lands_at u (at_cut t (suc n)) (suc n) (has.alike.later n ∙ at_is t (suc n)));
         },
       ) in
-      let moved = subst P there both in
-      record { summary_is = moved.0; twins = moved.1 }
+      subst P there both
+
+  pub twin_here : (x : PowerOn) (i : ℕ) (b : Boot) (child : Summary) → (one_round start).IsOn x i b → (one_round start).IsSummary (boots.child x i) child → HasTwin x (at_cut x i) (b.done + 1)
+      → IsTwin (one_round start) x i child
+  twin_here x i b child on is has = let twin = twin_at x i 1 b child on is has in record { summary_is = twin.0; twins = twin.1 }
+
+  -- A boot that went on over twins of a child.
+  pub passes_twins : (x : PowerOn) (i count : ℕ) (b b' : Boot) (child : Summary) (old new : Seen) → IsAt (one_round start) x i b old → i < length (ops_of x) → GoesOn b old b' new
+      → b'.done ≡ b.done + count → (one_round start).IsSummary (boots.child x i) child → ((j : ℕ) → 0 < j → j ≤ count → HasTwin x (at_cut x i) (b.done + j))
+      → IsAt (one_round start) x (i + count) b' new × AreTwinsOn (one_round start) x i count child
+  passes_twins x i count b b' child old new at early goes done is twins = (
+    went_by x i b b' old new at early count (done ∙ ap (λ n. n + count) at.on_is.1.count_is) goes.come goes.whole goes.layout goes.keeps,
+    record {
+      summaries = λ j le. there j (λ some. twins j some le);
+      twins = λ j some le. (twin_at x i j b child at.on_is is (twins j some le)).1;
+    },
+  )
+    where
+      there : (j : ℕ) → (0 < j → HasTwin x (at_cut x i) (b.done + j)) → (one_round start).IsSummary (boots.child x (i + j)) child
+      there zero twin = let same : i ≡ i + 0 = omega arith in subst (λ n. (one_round start).IsSummary (boots.child x n) child) same is
+      there (suc j) twin = (twin_at x i (suc j) b child at.on_is is (twin (omega arith))).0
 
   -- What runs a boot, and a boot that was cut.
   module _ (f : Seen) (b : Boot) (layout : f.geometry ≡ start.geometry) (begins : IsCold start.rules f b) where

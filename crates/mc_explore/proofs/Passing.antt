@@ -1,13 +1,13 @@
 -- A walk that passes the nodes below a node, child by child.
-use Rattle.std.proofs.Common.{Bool, refl, ◌-◌, IfSome, List, None, Option, Some, [], ap, append-nil, append_assoc, arith, false, subst, suc, sym, true, zero, ℕ, ◌++◌, ◌+◌, ◌∙◌, ◌∷◌, ◌≡◌, ◌≤◌}
+use Rattle.std.proofs.Common.{Bool, refl, ◌-◌, IfSome, List, None, Option, Some, [], ap, append-nil, append_assoc, arith, false, subst, suc, sym, true, zero, ℕ, ◌++◌, ◌+◌, ◌<◌, ◌∙◌, ◌∷◌, ◌≡◌, ◌≤◌}
 use Rattle.std.proofs.lemmas.List.{same_from_push}
 use Rattle.mc_boot.specs.{Outcome.{Report}, declared.shared_tail.SharedTail.{SharedTail}}
 use Rattle.mc_explore.proofs.Counting.{Census}
 use Rattle.mc_explore.specs.{Right.{judged}, declared.expectation.Expectation.{Expectation}, facts.Children.{HasCome, child_here, IsAtChild}}
-use Rattle.mc_explore.specs.{facts.Totals.{totals_weigh}, inner.Table.{GoesOnAlike, HasWeights, IsTailOf, PassesBelow, ReachesChild, own_totals, paths_of, weigh, weigh_below}, inner.Totals.{Totals, cut_off, report_totals, totals}}
+use Rattle.mc_explore.specs.{facts.Totals.{totals_weigh}, inner.Table.{GoesOnAlike, HasWeights, IsTailOf, PassesAlike, PassesBelow, ReachesChild, own_totals, paths_of, weigh, weigh_below}, inner.Totals.{Totals, cut_off, report_totals, totals}}
 use Rattle.mc_tree.specs.{Tree.{Allowed, landed}, facts.Order.{HasPassed, landed-push, next_child, passed_all, some_child}, facts.Weighed.{twins_weigh}}
 use Rattle.mc_tree.specs.inner.Weights.{AreTwins, WeighAlike, path_tree}
-use Rattle.mc_walk.specs.{TreeModel.{IsChildOf, TreeModel}, Walks.{Climbs, IsBeforeTwin, IsLastStep, IsSame, IsThere, Walked}}
+use Rattle.mc_walk.specs.{TreeModel.{IsChildOf, TreeModel}, Walks.{Climbs, HasPassedTwins, IsBeforeTwin, IsLastStep, IsSame, IsThere, Walked}}
 use Rattle.mc_walk.specs.declared.frame.Frame.{Frame}
 
 module _ {N A T B : Type 0} (k : TreeModel N A T) where
@@ -34,26 +34,38 @@ module _ {N A T B : Type 0} (k : TreeModel N A T) where
       let at = subst (λ p. IsChildOf k (landed k.tree k.root p) f.number f.at f.parent summary w.seen) same.0 (child_here k w f summary there step) in
       found e l number (subst (λ i. IsChildOf k (landed k.tree k.root l) i f.at f.parent summary w.seen) same.1 at)
 
-  -- The next child is a twin, and its path ends as this one does.
-  pub alike_next : (w : Walked B) (summary : T) (report_of : List ℕ → Report) (outcome : Report) → IsBeforeTwin k w summary
-      → ((path : List ℕ) → k.IsSummary (landed k.tree k.root path) summary → outcome ≡ report_of path)
-      → ((path other : List ℕ) → landed k.tree k.root path ≡ landed k.tree k.root other → report_of path ≡ report_of other) → (e : Expectation) (l : List ℕ) (number : ℕ) → w.path ≡ l ++ number ∷ []
-      → WeighAlike totals (paths_of k) (own_totals (paths_of k) report_of e) (l ++ (number + 1) ∷ []) (l ++ number ∷ [])
-  alike_next w summary report_of outcome before ended same_end e l number is =
-      let same = same_from_push before.before l before.number number (sym before.path_is ∙ is) in
-      let own : List ℕ → Totals = own_totals (paths_of k) report_of e in
-      let P : List ℕ → ℕ → Type 0 = λ x i. own (x ++ (i + 1) ∷ []) ≡ own (x ++ i ∷ []) in
-      let Q : List ℕ → ℕ → Type 0 = λ x i. AreTwins k.tree (landed k.tree k.root (x ++ (i + 1) ∷ [])) (landed k.tree k.root (x ++ i ∷ [])) in
-      let b = before.before in
-      let n = before.number in
-      let R : N → Type 0 = λ m. k.IsSummary m summary in
-      let here = ended (b ++ n ∷ []) (subst R (sym (landed-push k.tree k.root b n)) before.summary_is) in
-      let there = ended (b ++ (n + 1) ∷ []) (subst R (sym (landed-push k.tree k.root b (n + 1))) before.twin.summary_is) in
-      let ends : P b n = ap (λ o. report_totals (judged e o)) (sym there ∙ here) in
-      let twins : Q b n = rw (landed-push k.tree k.root b n, landed-push k.tree k.root b (n + 1)) before.twin.twins in
-      let moved : P l number = subst (P l) same.1 (subst (λ x. P x n) same.0 ends) in
-      let twins_moved : Q l number = subst (Q l) same.1 (subst (λ x. Q x n) same.0 twins) in
-      twins_weigh totals totals_weigh k.tree k.root own (λ p q e'. ap (λ o. report_totals (judged e o)) (same_end p q e')) (l ++ (number + 1) ∷ []) (l ++ number ∷ []) moved twins_moved
+module _ {N A T : Type 0} (k : TreeModel N A T) where
+  -- A child that is a twin, and its path ends as that of another one does.
+  module _ (summary : T) (report_of : List ℕ → Report) (outcome : Report) (ended : (path : List ℕ) → k.IsSummary (landed k.tree k.root path) summary → outcome ≡ report_of path)
+      (same_end : (path other : List ℕ) → landed k.tree k.root path ≡ landed k.tree k.root other → report_of path ≡ report_of other) (e : Expectation) where
+    pub weigh_alike : (l : List ℕ) (m n : ℕ) → k.IsSummary (k.tree.child (landed k.tree k.root l) m) summary → k.IsSummary (k.tree.child (landed k.tree k.root l) n) summary
+        → AreTwins k.tree (k.tree.child (landed k.tree k.root l) m) (k.tree.child (landed k.tree k.root l) n)
+        → WeighAlike totals (paths_of k) (own_totals (paths_of k) report_of e) (l ++ m ∷ []) (l ++ n ∷ [])
+    weigh_alike l m n one other twins =
+        let P : N → Type 0 = λ x. k.IsSummary x summary in
+        let here = ended (l ++ m ∷ []) (subst P (sym (landed-push k.tree k.root l m)) one) in
+        let there = ended (l ++ n ∷ []) (subst P (sym (landed-push k.tree k.root l n)) other) in
+        let moved : AreTwins k.tree (landed k.tree k.root (l ++ m ∷ [])) (landed k.tree k.root (l ++ n ∷ [])) = rw (landed-push k.tree k.root l m, landed-push k.tree k.root l n) twins in
+        twins_weigh totals totals_weigh k.tree k.root (own_totals (paths_of k) report_of e) (λ p q e'. ap (λ o. report_totals (judged e o)) (same_end p q e')) (l ++ m ∷ []) (l ++ n ∷ [])
+        (ap (λ o. report_totals (judged e o)) (sym here ∙ there)) moved
+
+    -- The next child of the node before is one.
+    pub alike_next : {B : Type 0} (w : Walked B) → IsBeforeTwin k w summary → (l : List ℕ) (number : ℕ) → w.path ≡ l ++ number ∷ []
+        → WeighAlike totals (paths_of k) (own_totals (paths_of k) report_of e) (l ++ (number + 1) ∷ []) (l ++ number ∷ [])
+    alike_next w before l number is =
+        let same = same_from_push before.before l before.number number (sym before.path_is ∙ is) in
+        let Q : List ℕ → ℕ → Type 0 = λ x i. WeighAlike totals (paths_of k) (own_totals (paths_of k) report_of e) (x ++ (i + 1) ∷ []) (x ++ i ∷ []) in
+        subst (Q l) same.1
+        (subst (λ x. Q x before.number) same.0 (weigh_alike before.before (before.number + 1) before.number before.twin.summary_is before.summary_is before.twin.twins))
+
+    -- So is each over which a walk went on.
+    pub alike_passed : {B : Type 0} (old new : Walked B) (count : ℕ) → HasPassedTwins k old count summary new → (l : List ℕ) (number j : ℕ) → old.path ≡ l ++ number ∷ [] → j ≤ count
+        → WeighAlike totals (paths_of k) (own_totals (paths_of k) report_of e) (l ++ (number + j) ∷ []) (l ++ number ∷ [])
+    alike_passed old new count passed l number zero is le = let same : number + 0 ≡ number = omega arith in λ d. ap (λ n. weigh (paths_of k) report_of e d (l ++ n ∷ [])) same
+    alike_passed old new count passed l number (suc j) is le =
+        let none : number + 0 ≡ number = omega arith in
+        let first = subst (λ n. k.IsSummary (k.tree.child (landed k.tree k.root l) n) summary) none (passed.summaries l number 0 is (omega arith)) in
+        weigh_alike l (number + suc j) number (passed.summaries l number (suc j) is le) first (passed.twins l number (suc j) is (omega arith) le)
 
 -- The children of the node where a walk stood, one after another.
 module _ {N A T B : Type 0} (model : B → TreeModel N A T) (old : Walked B) where
@@ -75,6 +87,32 @@ module _ {N A T B : Type 0} (model : B → TreeModel N A T) (old : Walked B) whe
         let back : number ≡ number + 1 - 1 = omega arith in
         let P : B → ℕ → Type 0 = λ b c. weigh (paths_of (model b)) (report_of b) e d (old.path ++ (number + 1) ∷ []) ≡ weigh (paths_of (model b)) (report_of b) e d (old.path ++ c ∷ []) in
         subst (P old.flash_tree) back (subst (λ b. P b number) here.same.flash_tree (alike e old.path number here.path d))
+
+    -- It goes on over children that have its totals.
+    module _ (report_of : B → List ℕ → Report) (e : Expectation) (count : ℕ) (last : Walked B) (passed : PassesAlike model report_of at count last) where
+      pub at_last : IsAtChild model old (number + count) last
+      at_last = record {
+        path = passed.path_is old.path number here.path;
+        same = record { flash_tree = passed.same.flash_tree ∙ here.same.flash_tree; bound = passed.same.bound ∙ here.same.bound };
+        limits = passed.limits ∙ here.limits;
+        stands = passed.stands;
+      }
+
+      pub some_last : number + count < k.tree.width (landed k.tree root old.path)
+      some_last =
+          subst (λ b. number + count < (model b).tree.width (landed (model b).tree (model b).root old.path)) here.same.flash_tree (passed.more old.path number here.path)
+
+      pub passed_alike : (j : ℕ) → j ≤ count → (d : ℕ)
+          → weigh_below (paths_of k) (report_of old.flash_tree) e old.path d (number + j) ≡ weigh_below (paths_of k) (report_of old.flash_tree) e old.path d number
+      passed_alike j le zero = refl
+      passed_alike j le (suc d) =
+          let P : B → Type 0 = λ b. weigh (paths_of (model b)) (report_of b) e d (old.path ++ (number + j) ∷ []) ≡ weigh (paths_of (model b)) (report_of b) e d (old.path ++ number ∷ []) in
+          subst P here.same.flash_tree (passed.alike e old.path number j here.path le d)
+
+      -- The totals below the last of them are those below that one.
+      pub first_weights : (bound : ℕ) (column : List Census) → HasWeights (paths_of k) (report_of old.flash_tree) e (old.path ++ (number + count) ∷ []) bound column
+          → HasWeights (paths_of k) (report_of old.flash_tree) e (old.path ++ number ∷ []) bound column
+      first_weights bound column is = (is.0, λ i lt. is.1 i lt ∙ ap (λ (a : Totals). Some (cut_off a)) (passed_alike count (omega arith) (suc i)))
 
     -- What is known of it there is known of that child.
     module _ (report_of : B → List ℕ → Report) (e : Expectation) where

@@ -279,6 +279,19 @@ module _ (under : ℕ → ℕ → Totals) (n most : ℕ) (none : (i : ℕ) → u
       child = each_more (λ r (x : Run Child). IsChild under n most x.first x.of) runs run are.child (subst (λ c. IsChild under n most c run.of) (sym first) child);
     }
 
+  -- Children more that have the totals of the one before them.
+  pub twins_more : (number : ℕ) (runs : List (Run Child)) → AreRuns under n most (number + 1) runs → (count : ℕ)
+      → ((j : ℕ) → j ≤ count → (d : ℕ) → under d (number + j) ≡ under d number) → AreRuns under n most (number + 1 + count) runs
+  twins_more number runs are zero same = let none : number + 1 ≡ number + 1 + 0 = omega arith in subst (λ m. AreRuns under n most m runs) none are
+  twins_more number runs are (suc count) same =
+      let before = twins_more number runs are count (λ j le. same j (omega (arith, le))) in
+      let here : number + suc count ≡ number + 1 + count = omega arith in
+      let last : number + count ≡ number + 1 + count - 1 = omega arith in
+      let one : number + 1 + count + 1 ≡ number + 1 + suc count = omega arith in
+      let alike : (d : ℕ) → under d (number + 1 + count) ≡ under d (number + 1 + count - 1) = λ d.
+      ap (under d) (sym here) ∙ same (suc count) (omega arith) d ∙ sym (same count (omega arith) d) ∙ ap (under d) last in
+      subst (λ m. AreRuns under n most m runs) one (twin_more (number + 1 + count) runs before (omega arith) alike)
+
 -- So many children from one on that have the same totals.
 pub repeated_is : (a : Totals) (k i : ℕ) → from totals (λ _. a) (suc k) i ≡ record {
   schedules = suc k * a.schedules;

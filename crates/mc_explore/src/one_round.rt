@@ -1,7 +1,7 @@
 //! The tree of boots that are cut: a node is what a boot begins with, and its child of a number is what the next one begins with
 //! where that boot is cut before its operation of that number.
 
-use mc_boot::{Boot, Outcome, SharedTail, has_twin, outcome_after};
+use mc_boot::{Boot, Outcome, SharedTail, has_twin, outcome_after, pass_twins};
 use mc_flash::Flash;
 use mc_start::Start;
 use mc_walk::FlashTree;
@@ -165,6 +165,17 @@ impl FlashTree for OneRound<'_> {
 
     fn next<F: Flash>(self, flash: &mut F, at: &mut Boot) -> Result<(), AllocError> {
         self.pass(flash, at)
+    }
+
+    fn pass_twins<F: Flash>(
+        self,
+        flash: &mut F,
+        at: &mut Boot,
+        child: &Summary,
+        most: u32,
+    ) -> Result<u32, AllocError> {
+        let count = pass_twins(flash, at, &child.boot, most)?;
+        Ok(count)
     }
 
     fn root<F: Flash>(self, flash: &mut F) -> Result<Summary, AllocError> {

@@ -4,7 +4,7 @@ ghost use Rattle.mc_boot.specs.Outcome.{shown};
 ghost use Rattle.mc_start.specs.Start.{begun};
 ghost use Rattle.mc_explore.specs.Census.{IsCensus, IsCensusOf};
 ghost use Rattle.mc_explore.specs.Right.{AreRights, judged};
-ghost use Rattle.mc_explore.specs.inner.Table.{CanPass, GoesOnAlike, HasSameLimits, HasWeights, IsTailHere, PassesBelow, ReachesChild, paths_of};
+ghost use Rattle.mc_explore.specs.inner.Table.{CanPass, GoesOnAlike, HasSameLimits, HasWeights, IsTailHere, PassesAlike, PassesBelow, ReachesChild, paths_of};
 ghost use Rattle.mc_walk.specs.Walks.{IsPath};
 
 use crate::census::{Census, CensusOf};
@@ -94,6 +94,20 @@ fn goes_on_alike<F: Flash, X: Ending>(walk: &Walk<F, X>) -> bool
     true
 }
 
+// Goes on from a child over next ones that surely have its censuses, and returns how many these are.
+fn pass_alike<F: Flash, X: Ending>(walk: &mut Walk<F, X>) -> Result<u32, AllocError>
+    requires { walk.old.stands ≡ true }
+    ensures passes { IfOk result (λ count. PassesAlike X.model X.report_of walk.old count
+        walk.new) }
+    ensures cause { IsErr result → walk.old.seen.usage.limits.counted ≡ false }
+{
+    let flash_tree = walk.flash_tree();
+    let (count, summary) = walk.pass_twins()?;
+    // All of them end as the first one does.
+    let _outcome = flash_tree.ended(&summary);
+    Ok(count)
+}
+
 // The censuses of the node where a walk stands, for each bound up to that one. The walk passes all that lies below the node. Of a
 // child whose boot goes on with that of the node the node's other children are enough; it goes below another one alone.
 fn column<F: Flash, X: Ending>(
@@ -121,13 +135,17 @@ fn column<F: Flash, X: Ending>(
     let mut runs = Vec::new(alloc);
     // Whether the child has the censuses of the one before.
     let mut is_alike = false;
-    for number in 0..count {
+    let mut number = 0;
+    'children: while number < count {
         if is_alike {
             go_to_child(walk, number)?;
+            let passed = pass_alike(walk)?;
+            number = number + passed + 1;
             is_alike = goes_on_alike(walk);
-            continue;
+            continue 'children;
         }
         let end = visit_child(walk, number)?;
+        let passed = pass_alike(walk)?;
         is_alike = goes_on_alike(walk);
         let below = match end.tail {
             Some(shared_tail) => Below::Joined(shared_tail),
@@ -135,6 +153,7 @@ fn column<F: Flash, X: Ending>(
         };
         let outcome = expectation.judge(&end.outcome);
         add_child(&mut runs, number, Child { outcome, below })?;
+        number = number + passed + 1;
     }
     Ok(column_of(alloc, own, &runs, count, bound)?)
 }

@@ -16,7 +16,13 @@ last_of (y ∷ []) zero x len e = ([], ap (λ z. z ∷ []) (same_Some y x e))
 last_of (y ∷ z ∷ zs) zero x len e = absurd (omega (arith, len))
 last_of (y ∷ ys) (suc n) x len e = let r = last_of ys n x (omega (arith, len)) e in (y ∷ r.0, ap (λ w. y ∷ w) r.1)
 
--- And it is the one that is put there.
+-- One that is not empty has a last.
+pub last_one : {X : Type 0} (xs : List X) → 0 < length xs → (before : List X) × (x : X) × (xs ≡ before ++ x ∷ [])
+last_one [] some = absurd (omega (arith, some))
+last_one (x ∷ []) some = ([], x, refl)
+last_one (x ∷ y ∷ ys) some = let r = last_one (y ∷ ys) (omega arith) in (x ∷ r.0, r.1, ap (λ z. x ∷ z) r.2)
+
+-- The last is the one that is put there.
 last_at : {X : Type 0} (xs : List X) (x : X) → slice_get (xs ++ x ∷ []) (length xs) ≡ Some x
 last_at [] x = refl
 last_at (y ∷ ys) x = last_at ys x

@@ -1,13 +1,13 @@
 -- A walk on its way to a further node.
 use Rattle.std.proofs.Common.{◌≡◌, ℕ, ◌+◌, ◌*◌, ◌<◌, ◌≤◌, true, false, List, [], ◌∷◌, ◌++◌, length, Option, Some, None, Result, Ok, OnOk, IfSome, is_some, slice_index_or, slice_set, ◌-◌, length-append, append-nil, append_assoc, refl, sym, ap, subst, ◌∙◌, arith}
-use Rattle.std.proofs.lemmas.List.{map-append, length-map, get_or_at, set_at}
-use Rattle.mc_tree.specs.{Tree.{Allowed}, facts.Order.{IsNextBeyond, allowed-last, none_beyond, next_beyond}}
+use Rattle.std.proofs.lemmas.List.{map-append, length-map, get_or_at, same_from_push, set_at}
+use Rattle.mc_tree.specs.{Tree.{Allowed, landed}, facts.Order.{IsNextBeyond, allowed-last, none_beyond, next_beyond}, inner.Weights.{AreTwins}}
 use Rattle.mc_flash.specs.Usage.{Counts, Checkpoint, Seen, Keeps, checkpoint_of, went_back, marked, Spent, Spends, Stays, HasRoom, LeaveRoom, plus, room_of}
 use Rattle.mc_flash.specs.{facts.Spends.{spent_back, spent_both, spent_more}, declared.flash.FlashError.{FlashError}}
-use Rattle.mc_walk.specs.TreeModel.{IsTwin, TreeModel, owed_there, summary_cost, IsAt, IsParent, HasNext, ReachesNext, CanReach}
-use Rattle.mc_walk.specs.inner.Stack.{path_of, most_at, AreSpent, IsLastOpen, AreFrames, Stacked, node_of, Stands, Comes, CanGoOn, IsKnown, IsLeft, IsOneOn, IsOpen, IsRoomy, IsTwinOn}
-use Rattle.mc_walk.specs.{Walks.{walked, IsBeforeTwin, IsFresh, Begins, IsThere, IsGoing, IsLastStep, IsPath, GoesDown, Climbs}, declared.frame.Frame.{Frame}}
-use Rattle.mc_walk.proofs.Stacks.{path-push, no_path, frames_allowed, frames_last, among, node-push, none_spent, one_last, length-stack, popped}
+use Rattle.mc_walk.specs.TreeModel.{AreTwinsOn, CanPassTwins, HasWidth, IsTwin, PassesTwins, TreeModel, owed_there, summary_cost, IsAt, IsParent, HasNext, ReachesNext, CanReach}
+use Rattle.mc_walk.specs.inner.Stack.{path_of, most_at, AreSpent, IsLastOpen, AreFrames, Stacked, node_of, Stands, Comes, CanGoOn, CanPass, HasPassed, IsKnown, IsLeft, IsOneOn, IsOpen, IsRoomy, IsTwinOn}
+use Rattle.mc_walk.specs.{Walks.{walked, HasPassedTwins, IsBeforeTwin, IsFresh, Begins, IsThere, IsGoing, IsLastStep, IsPath, GoesDown, Climbs}, declared.frame.Frame.{Frame}}
+use Rattle.mc_walk.proofs.Stacks.{entered, last_one, path-push, no_path, frames_allowed, frames_last, among, node-push, none_spent, one_last, length-stack, popped}
 
 pub ok_any : {X E P : Type 0} (r : Result X E) → P → OnOk r P
 ok_any it p = grind arith
@@ -97,11 +97,6 @@ module _ {N A T : Type 0} (k : TreeModel N A T) where
       → seen ≡ went_back (length fs + 1) old → Back bound old seen all fs f
   went_up bound old seen all fs f summary going last e = subst (λ z. Back bound old z all fs f) (sym e) (went_up_to bound old all fs f summary going last)
 
-  -- It goes on to the next child.
-  pub went_on : (seen new : Seen) (fs : List (Frame A T)) (f : Frame A T) (at : A) → Comes k seen fs f → f.number + 1 < k.tree.width (node_of k fs)
-      → Keeps seen new → ReachesNext k {E = FlashError} f.at seen (Ok tt) at new → Comes k new fs (record { at = at; number = f.number + 1; parent = f.parent })
-  went_on seen new fs f at c lt keeps goes = grind arith
-
   -- A child is on its way, at that cost.
   pub record Ready (bound cost : ℕ) (old mid : Seen) (fs : List (Frame A T)) (f : Frame A T) : Type 0 where
     pub comes : Comes k mid fs f
@@ -125,10 +120,10 @@ module _ {N A T : Type 0} (k : TreeModel N A T) where
     room_on = enter_room c.bound mid c.before next_on comes_on (roomy_stays c.bound seen mid spent.limits c.roomy) c.at_most
 
   -- The last frame, and what is put in its place.
-  last_now : (all before : List (Frame A T)) (f now : Frame A T) (n : ℕ) → n ≡ length all - 1 → now ≡ slice_index_or all n now → all ≡ before ++ f ∷ [] → now ≡ f
+  pub last_now : (all before : List (Frame A T)) (f now : Frame A T) (n : ℕ) → n ≡ length all - 1 → now ≡ slice_index_or all n now → all ≡ before ++ f ∷ [] → now ≡ f
   last_now all before f now n is value split = grind (arith, length-append, get_or_at)
 
-  last_set : (all before : List (Frame A T)) (f next : Frame A T) (n : ℕ) → n ≡ length all - 1 → all ≡ before ++ f ∷ [] → slice_set all n next ≡ before ++ next ∷ []
+  pub last_set : (all before : List (Frame A T)) (f next : Frame A T) (n : ℕ) → n ≡ length all - 1 → all ≡ before ++ f ∷ [] → slice_set all n next ≡ before ++ next ∷ []
   last_set all before f next n is split = grind (arith, length-append, set_at)
 
   pub one_on : (all : List (Frame A T)) (now next : Frame A T) (n : ℕ) → n ≡ length all - 1 → now ≡ slice_index_or all n now → next.number ≡ now.number + 1
@@ -136,13 +131,98 @@ module _ {N A T : Type 0} (k : TreeModel N A T) where
   one_on all now next n is value number before f split =
       (next, last_set all before f next n is split, number ∙ ap (λ (z : Frame A T). z.number + 1) (last_now all before f now n is value split))
 
-  pub frames_on : (seen : Seen) (all : List (Frame A T)) (c : CanGoOn k seen all) (next : Frame A T) (n : ℕ) → n ≡ length all - 1
-      → slice_set all n next ≡ c.before ++ next ∷ []
-  frames_on seen all c next n is = last_set all c.before c.frame next n is c.frames_are
+  -- From the child of the last frame it can go on, and went on, over so many twins.
+  module _ (seen : Seen) (all : List (Frame A T)) (summary : T) (c : CanPass k seen all summary) (f : Frame A T) (f_is : f ≡ c.frame) (width most : ℕ) (has : HasWidth k f.parent width)
+      (most_is : most ≡ (width - 1) - f.number) where
+    inside : f.number + most < k.tree.width (node_of k c.before)
+    inside = grind arith
 
-  pub last_is : (seen : Seen) (all : List (Frame A T)) (c : CanGoOn k seen all) (now : Frame A T) (n : ℕ) → n ≡ length all - 1
-      → now ≡ slice_index_or all n now → now ≡ c.frame
-  last_is seen all c now n is value = last_now all c.before c.frame now n is value c.frames_are
+    pub can_pass_twins : CanPassTwins k most f.at summary seen
+    can_pass_twins =
+        let room = steps_room c.bound (length c.before) seen.usage.counts (k.left f.at) seen c.roomy (omega (arith, c.at_most)) (rw f_is c.comes.frame.room) in
+        (node_of k c.before, f.number, grind arith, inside, rw f_is c.summary_is, room)
+
+    module _ (mid : Seen) (count n : ℕ) (at : A) (keeps : Keeps seen mid) (goes : PassesTwins k {E = FlashError} most f.at summary seen (Ok count) at mid) (spent : Spent n seen mid) where
+      abbrev pub passed_to : Frame A T
+      passed_to = record { at = at; number = f.number + count; parent = f.parent }
+
+      there : IsAt k (node_of k c.before) (f.number + count) at mid × AreTwinsOn k (node_of k c.before) f.number count summary
+      there = let lt = inside in grind arith
+
+      comes_to : Comes k mid c.before passed_to
+      comes_to = grind arith
+
+      pub mark_passed : length mid.checkpoints < mid.usage.limits.checkpoints
+      mark_passed = mark_room c.bound mid c.before passed_to comes_to (roomy_stays c.bound seen mid spent.limits c.roomy) c.at_most
+
+      pub has_passed : (new : Seen) (fs : List (Frame A T)) → new ≡ marked mid → fs ≡ c.before ++ passed_to ∷ [] → HasPassed k seen all summary count new fs
+      has_passed new fs m e = record {
+        stands = subst (λ z. Stands k z fs summary) (sym m) (subst (λ z. Stands k (marked mid) z summary) (sym e)
+            (entered k mid (marked mid) c.before passed_to summary comes_to (record { geometry = refl; content = refl; checkpoints = refl; counts = refl }) (there.1.summaries count (omega arith))));
+        limits = ap (λ (z : Seen). z.usage.limits) m ∙ spent.limits;
+        before = c.before;
+        frame = f;
+        next = passed_to;
+        frames_are = c.frames_are ∙ ap (λ z. c.before ++ z ∷ []) (sym f_is);
+        next_are = e;
+        number_is = refl;
+        twins = there.1;
+      }
+
+  -- A walk that stands at the child of its last frame gives up the mark there, and passes twins.
+  module _ (bound n : ℕ) (old seen : Seen) (all : List (Frame A T)) (summary : T) (going : IsGoing k bound old all summary) (index_is : n ≡ length all) (e : seen ≡ went_back n old) where
+    limits_back : seen.usage.limits ≡ old.usage.limits
+    limits_back = ap (λ (z : Seen). z.usage.limits) e ∙ (spent_back n old).limits
+
+    can_pass_from : (fs : List (Frame A T)) (f : Frame A T) → all ≡ fs ++ f ∷ [] → CanPass k seen all summary
+    can_pass_from fs f split =
+        let s = going.stands in
+        let steps : n ≡ length fs + 1 = omega (arith, index_is, ap length split, length-append fs (f ∷ [])) in
+        let p = popped k old all fs f [] s.stacked s.layout_is split in
+        record {
+          before = fs;
+          frame = f;
+          frames_are = split;
+          comes = subst (λ z. Comes k z fs f) (sym (e ∙ ap (λ n. went_back n old) steps)) p.0;
+          summary_is = subst (λ n. k.IsSummary n summary) (ap (node_of k) split ∙ node-push k fs f) s.summary_is;
+          bound = bound;
+          at_most = omega (arith, steps, index_is, going.at_most);
+          roomy = roomy_stays bound old seen limits_back going.roomy;
+        }
+
+    pub can_pass : 0 < length all → CanPass k seen all summary
+    can_pass some = let r = last_one all some in can_pass_from r.0 r.1 r.2
+
+    module _ (count : ℕ) (new : Seen) (fs : List (Frame A T)) (p : HasPassed k seen all summary count new fs) where
+      pub going_on : IsGoing k bound new fs summary
+      going_on = let back = limits_back in grind (arith, length-append)
+
+      more_on : p.frame.number + count < k.tree.width (node_of k p.before)
+      more_on =
+          let st = p.stands.stacked in
+          rw (← p.number_is) (among k k.root 0 st.above p.before p.next [] (subst (AreFrames k k.root 0 st.above) p.next_are st.frames)).frame.some
+
+      pub passed_twins : {B : Type 0} (b : B) (stood : Option T) → HasPassedTwins k (walked b bound old all stood) count summary (walked b bound new fs (Some summary))
+      passed_twins b stood =
+          let path = ap path_of p.frames_are ∙ path-push p.before p.frame in
+          let next = ap path_of p.next_are ∙ path-push p.before p.next in
+          record {
+            same = record { flash_tree = refl; bound = refl };
+            stands = refl;
+            limits = p.limits ∙ limits_back;
+            path_is = λ before number is.
+                let same = same_from_push (path_of p.before) before p.frame.number number (sym path ∙ is) in
+                next ∙ ap (λ n. path_of p.before ++ n ∷ []) p.number_is ∙ ap (λ l. l ++ (p.frame.number + count) ∷ []) same.0 ∙ ap (λ n. before ++ (n + count) ∷ []) same.1;
+            more = λ before number is. to before number is (λ n i. i + count < k.tree.width n) more_on;
+            summaries = λ before number j is le. to before number is (λ n i. k.IsSummary (k.tree.child n (i + j)) summary) (p.twins.summaries j le);
+            twins = λ before number j is some le. to before number is (λ n i. AreTwins k.tree (k.tree.child n (i + j)) (k.tree.child n i)) (p.twins.twins j some le);
+          }
+        where
+          to : (before : List ℕ) (number : ℕ) → path_of all ≡ before ++ number ∷ [] → (P : N → ℕ → Type 0) → P (node_of k p.before) p.frame.number → P (landed k.tree k.root before) number
+          to before number is P here =
+              let path = ap path_of p.frames_are ∙ path-push p.before p.frame in
+              let same = same_from_push (path_of p.before) before p.frame.number number (sym path ∙ is) in
+              subst (P (landed k.tree k.root before)) same.1 (subst (λ l. P (landed k.tree k.root l) p.frame.number) same.0 here)
 
   -- It is the summary of the node where the walk stands, which has a child of that number.
   module _ (number bound steps : ℕ) (old : Seen) (fs : List (Frame A T)) (stood : Option T) (going : IfSome stood (IsGoing k bound old fs)) (e : steps ≡ length fs) (summary : T)

@@ -105,3 +105,22 @@ module _ {N A T : Type 0} (k : TreeModel N A T) where
   pub record IsTwin (n : N) (i : ℕ) (summary : T) : Type 0 where
     pub summary_is : k.IsSummary (k.tree.child n (i + 1)) summary
     pub twins : AreTwins k.tree (k.tree.child n (i + 1)) (k.tree.child n i)
+
+  -- The children of a node after that one, so many, are twins of it, and have the same summary.
+  pub record AreTwinsOn (n : N) (i count : ℕ) (summary : T) : Type 0 where
+    pub summaries : (j : ℕ) → j ≤ count → k.IsSummary (k.tree.child n (i + j)) summary
+    pub twins : (j : ℕ) → 0 < j → j ≤ count → AreTwins k.tree (k.tree.child n (i + j)) (k.tree.child n i)
+
+  -- The flash stands at a child with that summary, after which there are so many at least, and there is room for what it has left.
+  abbrev pub CanPassTwins : ℕ → A → T → Seen → Type 0
+  CanPassTwins most at summary seen =
+      (n : N) × (i : ℕ) × IsAt n i at seen × (i + most < k.tree.width n) × k.IsSummary (k.tree.child n i) summary × Allows (k.left at) seen
+
+  -- It went on to one of those; it and all between are twins of that child.
+  abbrev pub PassesTwins : {E : Type 0} → ℕ → A → T → Seen → Result ℕ E → A → Seen → Type 0
+  PassesTwins most at summary old (Ok count) at' new =
+      (count ≤ most)
+      × ((n : N) (i : ℕ) → IsAt n i at old → i + most < k.tree.width n → k.IsSummary (k.tree.child n i) summary
+      → IsAt n (i + count) at' new × AreTwinsOn n i count summary)
+      × LeaveRoom new.usage.counts (k.left at') (plus old.usage.counts (k.left at))
+  PassesTwins most at summary old (Err _) at' new = Unit {0}

@@ -1,7 +1,7 @@
 -- What callers see of a walk, and how it goes on.
 use Rattle.std.specs.Prelude.{Bool, Err, IfSome, List, Ok, Option, Result, [], false, is_some, length, take, true, ℕ, ◌*◌, ◌++◌, ◌+◌, ◌<◌, ◌∷◌, ◌≡◌, ◌≢◌, ◌≤◌}
 use Rattle.mc_flash.specs.Usage.{HasRoom, LeaveRoom, RanOut, Seen, Spent, checkpoint_of, no_counts}
-use Rattle.mc_tree.specs.{Tree.{After, AtStart, IsMember, IsNext, IsOver, Lost, Position, landed}, facts.Order.{IsNextBeyond, NoneBeyond}}
+use Rattle.mc_tree.specs.{Tree.{After, AtStart, IsMember, IsNext, IsOver, Lost, Position, landed}, facts.Order.{IsNextBeyond, NoneBeyond}, inner.Weights.{AreTwins}}
 use Rattle.mc_walk.specs.{TreeModel.{IsAt, IsRoot, IsTwin, TreeModel, summary_cost}, declared.frame.Frame.{Frame}, declared.tour.Phase.{Phase}}
 use Rattle.mc_walk.specs.{declared.tour.Phase.TheVariants.{Broken, Done, Fresh, Going}, declared.tour.TourError.{TourError}}
 use Rattle.mc_walk.specs.inner.Stack.{IsRoomy, Stands, most_at, path_of}
@@ -55,6 +55,18 @@ module _ {N A T B : Type 0} (k : TreeModel N A T) where
     pub more : number + 1 < k.tree.width (landed k.tree k.root before)
     pub summary_is : k.IsSummary (k.tree.child (landed k.tree k.root before) number) summary
     pub twin : IsTwin k (landed k.tree k.root before) number summary
+
+  -- It went on by so many children, all of them twins of the one where it stood, and with that summary, as it has.
+  pub record HasPassedTwins (old : Walked B) (count : ℕ) (summary : T) (new : Walked B) : Type 0 where
+    pub same : IsSame old new
+    pub stands : new.stands ≡ true
+    pub limits : new.seen.usage.limits ≡ old.seen.usage.limits
+    pub path_is : (before : List ℕ) (number : ℕ) → old.path ≡ before ++ number ∷ [] → new.path ≡ before ++ (number + count) ∷ []
+    pub more : (before : List ℕ) (number : ℕ) → old.path ≡ before ++ number ∷ [] → number + count < k.tree.width (landed k.tree k.root before)
+    pub summaries : (before : List ℕ) (number j : ℕ) → old.path ≡ before ++ number ∷ [] → j ≤ count
+        → k.IsSummary (k.tree.child (landed k.tree k.root before) (number + j)) summary
+    pub twins : (before : List ℕ) (number j : ℕ) → old.path ≡ before ++ number ∷ [] → 0 < j → j ≤ count
+        → AreTwins k.tree (k.tree.child (landed k.tree k.root before) (number + j)) (k.tree.child (landed k.tree k.root before) number)
 
   -- The paths that it can take.
   abbrev pub IsPath : Walked B → List ℕ → Type 0

@@ -1,2 +1,3 @@
 -- Lemmas that the crates above cite.
 pub mod Same
+pub mod Twins

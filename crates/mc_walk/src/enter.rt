@@ -1,9 +1,9 @@
 //! To a child: one level down, and from one child to the next.
-ghost use Rattle.std.specs.Prelude.{◌≡◌, ℕ, ◌+◌, ◌<◌, ◌≤◌, ◌++◌, [], ◌∷◌, IfOk, IfSome, OnOk};
+ghost use Rattle.std.specs.Prelude.{◌≡◌, ℕ, ◌+◌, ◌<◌, ◌≤◌, ◌++◌, [], ◌∷◌, IfOk, IfSome, OnErr, OnOk};
 ghost use Rattle.std.specs.Vec.{vec_capacity};
-ghost use Rattle.mc_flash.specs.Usage.{HasRoom, Spends, Stays};
+ghost use Rattle.mc_flash.specs.Usage.{HasRoom, RanOut, Spends, Stays};
 ghost use Rattle.mc_walk.specs.TreeModel.{IsAt, IsChild, owed_there, summary_cost};
-ghost use Rattle.mc_walk.specs.inner.Stack.{CanGoOn, Enters, IsKnown, IsOneOn, IsTwinOn, Stands};
+ghost use Rattle.mc_walk.specs.inner.Stack.{CanGoOn, CanPass, Enters, HasPassed, IsKnown, IsOneOn, IsTwinOn, Stands};
 
 use crate::FlashTree;
 use crate::frame::Frame;
@@ -103,4 +103,31 @@ pub(crate) fn next_sibling<F: Flash, B: FlashTree>(
     last.number += 1;
     flash.mark()?;
     summary_of(flash_tree, flash, last, twin)
+}
+
+/// Goes from the child of the last frame, which has that summary, on over next ones that surely are twins of it, marks the flash at the
+/// last of them, and gives how many these are.
+#[inline]
+pub(crate) fn pass_siblings<F: Flash, B: FlashTree>(
+    flash_tree: B,
+    flash: &mut F,
+    frames: &mut Vec<Frame<B::Child, B::Summary>>,
+    summary: &B::Summary,
+) -> Result<u32, AllocError>
+    requires { CanPass (B.model flash_tree) (F.seen flash.old) frames.old.items summary.now }
+    ensures passes { IfOk result (λ count. HasPassed (B.model flash_tree) (F.seen flash.old)
+        frames.old.items summary.now count (F.seen flash.new) frames.new.items) }
+    ensures capacity { vec_capacity frames.new ≡ vec_capacity frames.old }
+    ensures out { OnErr result (RanOut (F.seen flash.old) (F.seen flash.new)) }
+{
+    let end = frames.len() - 1;
+    let last = &mut frames[end];
+    let most = flash_tree
+        .width(&last.parent)
+        .saturating_sub(1)
+        .saturating_sub(last.number);
+    let count = flash_tree.pass_twins(flash, &mut last.at, summary, most)?;
+    last.number += count;
+    flash.mark()?;
+    Ok(count)
 }

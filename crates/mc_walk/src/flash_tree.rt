@@ -5,9 +5,9 @@ use std::alloc::AllocError;
 /// A kind of tree over the contents of a flash: how one goes from a node to its children, and what is known of a node, its
 /// summary. That may be derived from the summary of the parent.
 pub trait FlashTree: Copy {
-    ghost use Rattle.std.specs.Prelude.{◌≡◌, ℕ, ◌+◌, ◌<◌, true, IfOk, OnOk};
+    ghost use Rattle.std.specs.Prelude.{◌≡◌, ℕ, ◌+◌, ◌*◌, ◌<◌, true, IfOk, OnOk};
     ghost use Rattle.mc_flash.specs.Usage.{Keeps, HasRoom, Spends, Stays};
-    ghost use Rattle.mc_walk.specs.TreeModel.{TreeModel, CanReach, IsAt, Reaches, HasNext, ReachesNext, IsRoot, IsChild, IsChildSummary, IsTwin, HasWidth, owed_there, summary_cost};
+    ghost use Rattle.mc_walk.specs.TreeModel.{TreeModel, CanReach, IsAt, Reaches, HasNext, ReachesNext, CanPassTwins, PassesTwins, IsRoot, IsChild, IsChildSummary, IsTwin, HasWidth, owed_there, summary_cost};
 
     ghost Node: { Type 0 };
 
@@ -59,6 +59,22 @@ pub trait FlashTree: Copy {
             → i + 1 < (model self).tree.width n
             → (model self).IsSummary ((model self).tree.child n i) child.now
             → IsTwin (model self) n i child.now };
+
+    /// Goes on from a child, with that summary, at which the flash stands, over next ones that surely are twins of it, at most so many,
+    /// and returns how many these are. The flash stands at the last of them then.
+    fn pass_twins<F: Flash>(
+        self,
+        flash: &mut F,
+        at: &mut Self::Child,
+        child: &Self::Summary,
+        most: u32,
+    ) -> Result<u32, AllocError>
+        requires { CanPassTwins (model self) most at.old child.now (F.seen flash.old) }
+        ensures passes { PassesTwins (model self) most at.old child.now (F.seen flash.old) result
+            at.new (F.seen flash.new) }
+        ensures keeps { OnOk result (Keeps (F.seen flash.old) (F.seen flash.new)) }
+        ensures spends { Spends (most * (model self).step) (F.seen flash.old) result
+            (F.seen flash.new) };
 
     /// The summary of the root at which the flash stands.
     fn root<F: Flash>(self, flash: &mut F) -> Result<Self::Summary, AllocError>

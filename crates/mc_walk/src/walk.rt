@@ -1,14 +1,14 @@
 //! A walk through a tree.
-ghost use Rattle.std.specs.Prelude.{◌≡◌, ◌≤◌, [], None, is_some, IfOk, IfSome, true, false};
+ghost use Rattle.std.specs.Prelude.{◌≡◌, ◌≤◌, [], None, is_some, IfOk, IfSome, OnErr, true, false};
 ghost use Rattle.std.specs.List.{slice_get};
 ghost use Rattle.mc_tree.specs.Tree.{labelled};
-ghost use Rattle.mc_flash.specs.Usage.{Spends, Spent};
+ghost use Rattle.mc_flash.specs.Usage.{RanOut, Spends, Spent};
 ghost use Rattle.mc_walk.specs.TreeModel.{summary_cost};
-ghost use Rattle.mc_walk.specs.Walks.{IsClear, IsFresh, IsOf, Begins, GoesDown, Climbs, Advances, Follows, IsThere, IsBeforeTwin, IsLastStep, child_cost, path_cost};
+ghost use Rattle.mc_walk.specs.Walks.{IsClear, IsFresh, IsOf, Begins, GoesDown, Climbs, HasPassedTwins, Advances, Follows, IsThere, IsBeforeTwin, IsLastStep, child_cost, path_cost};
 
 use crate::FlashTree;
 use crate::child_steps::{go_to_child, parent};
-use crate::enter::{enter, next_sibling, twin_of};
+use crate::enter::{enter, next_sibling, pass_siblings, twin_of};
 use crate::frame::{Frame, leave_spent};
 use arrayvec::ArrayVec;
 use mc_flash::Flash;
@@ -200,6 +200,34 @@ impl<F: Flash, B: FlashTree> Walk<F, B> {
         ensures { IfSome result (IsBeforeTwin (B.model self.now.flash_tree) self.now) }
     {
         twin_of(self.flash_tree, &self.flash, &self.frames, self.summary)
+    }
+
+    /// Goes on among the children of the last node before it, over next ones that surely are twins of the one where it stands, and
+    /// returns how many these are, and the summary that all of them have.
+    ///
+    /// # Errors
+    ///
+    /// Where the flash was refused memory; then the walk stands nowhere.
+    #[tactic(auto, using(mc_flash::specs::facts::Spends::ran_out_later, mc_flash::specs::facts::Spends::spent_back))]
+    pub fn pass_twins(&mut self) -> Result<(u32, B::Summary), AllocError>
+        requires { self.old.stands ≡ true }
+        ensures passes { IfOk result (λ passed. HasPassedTwins (B.model self.old.flash_tree)
+            self.old passed.0 passed.1 self.new) }
+        ensures out { OnErr result (RanOut self.old.seen self.new.seen) }
+    {
+        let Some(summary) = self.summary else {
+            unreachable!()
+        };
+        let steps = self.frames.len();
+        if steps == 0 {
+            return Ok((0, summary));
+        }
+        self.summary = None;
+        // The checkpoint of the last frame stands after that of the root and those of the frames below it.
+        self.flash.back_to(steps);
+        let count = pass_siblings(self.flash_tree, &mut self.flash, &mut self.frames, &summary)?;
+        self.summary = Some(summary);
+        Ok((count, summary))
     }
 
     /// Goes up to the last node that has a further child, and on to that child.

@@ -1,10 +1,10 @@
 -- Copies that are made as one. Proved here, so that the crates above can cite it.
 use Rattle.std.proofs.{Common.{ap, arith, inl, inr, subst, sym, zero-add, ◌∙◌}, Math.Nat.{mul-le-mul_right}}
 use Rattle.std.proofs.lemmas.List.{length-drop}
-use Rattle.std.specs.Prelude.{Err, List, Ok, Result, Some, [], drop, length, refl, slice_get, suc, true, zero, ℕ, ◌*◌, ◌+◌, ◌-◌, ◌<◌, ◌∷◌, ◌≡◌, ◌≤◌}
+use Rattle.std.specs.Prelude.{Err, List, Ok, Some, [], drop, length, slice_get, suc, true, zero, ℕ, ◌*◌, ◌+◌, ◌-◌, ◌<◌, ◌∷◌, ◌≡◌, ◌≤◌}
 use Rattle.mc_boot.specs.{Boot.{CountsOn, HasCome, Leaps, Progress, all_saves, leapt, left_of, stepped}, Copies.{AreCopies, copy_at, whole_copy}}
 use Rattle.mc_boot.specs.{Plan.{PowerOn}, declared.transfer.Copies.{Copies}, facts.Run.{come_next}, facts.Steps.{Comes}}
-use Rattle.mc_flash.specs.{Flash.{AreApart, CanTry, Content, IsSized, apply, bytes_of}, Geometry.{Geometry}, Usage.{Allows, IsFull, RanOut, Seen}}
+use Rattle.mc_flash.specs.{Flash.{AreApart, CanTry, Content, IsSized, apply, bytes_of}, Geometry.{Geometry}, Usage.{Allows, IsFull, RanOut, Seen, Spent}}
 use Rattle.mc_flash.specs.{declared.op.Op.{Op}, declared.op.Op.TheVariants.{Copy}, facts.Changes.{sized_is}, facts.Copies.{copy_lengths, copy_parts}, facts.Done.{did}}
 use Rattle.mc_flash.specs.{facts.Spends.{Notes, done_notes, gave_up}, declared.flash.FlashError.{FlashError}, declared.op.Slot.{Slot}}
 use Rattle.mc_flash.specs.declared.flash.FlashError.TheVariants as errors
@@ -24,6 +24,10 @@ some_left : (ops : List Op) (k : ℕ) (op : Op) → slice_get ops k ≡ Some op 
 some_left [] k op is = absurd cc
 some_left (x ∷ ops) zero op is = omega arith
 some_left (x ∷ ops) (suc k) op is = omega (arith, some_left ops k op is)
+
+-- Copies that are at most so many are as many as they are.
+pub all_copies : (ops : List Op) (most : ℕ) (c : Copies) → AreCopies ops 0 most c → AreCopies ops 0 c.count c
+all_copies ops most c are = record { each = are.each; some = are.some; at_most = omega arith }
 
 each_next : (ops : List Op) (most : ℕ) (c : Copies) → AreCopies ops 0 most c → (j : ℕ) → j < c.count → slice_get ops j ≡ Some (copy_at c j)
 each_next ops most c are j lt = subst (λ n. slice_get ops n ≡ Some (copy_at c j)) (zero-add j) (are.each j lt)
@@ -78,7 +82,7 @@ module _ (x : PowerOn) (from to : Slot) (len : ℕ) where
             there ∙ ap (λ n. Some (Copy from n to (target + suc j * len) len)) source_is ∙ ap (λ n. Some (Copy from (source + len + j * len) to n len)) target_is;
         from_there = omega (arith, next.from_there, lengths from);
         to_there = omega (arith, next.to_there, lengths to);
-        apart = λ same. elim (next.apart same) [ | inl below ↦ inl (omega (arith, below)) | inr above ↦ inr (omega (arith, above)) ];
+        apart = λ same. elim (next.apart same) [ inl below ↦ inl (omega (arith, below)) | inr above ↦ inr (omega (arith, above)) ];
       } in
       subst (λ q. HasCome x q t) (one_more (suc k) p rest.0 op rest.1) (come_copies k (source + len) (target + len) (stepped p rest.0) u t here later parts.2)
 
@@ -117,7 +121,7 @@ module _ (x : PowerOn) (c : Copies) (p : Progress) (s t : Content) (sized : IsSi
         each = λ i lt. each_next p.to_come c.count c are i (omega (arith, lt, le));
         from_there = omega (arith, source, less);
         to_there = omega (arith, target, less);
-        apart = λ same. elim (can.2 same) [ | inl below ↦ inl (omega (arith, below, less)) | inr above ↦ inr (omega (arith, above, less)) ];
+        apart = λ same. elim (can.2 same) [ inl below ↦ inl (omega (arith, below, less)) | inr above ↦ inr (omega (arith, above, less)) ];
       }
 
 -- What a leap spends.
@@ -156,6 +160,9 @@ module _ (c : Copies) (p q : Progress) (old new : Seen) (are : AreCopies p.to_co
           spends = record { applied = omega (arith, n.applied, fewer, are.some); limits = n.limits; failed = n.failed };
           less = λ _. omega (arith, fewer, are.some);
         }
+
+    pub leap_spent : Spent c.count old new
+    leap_spent = let n = noted_so in record { applied = omega (arith, n.applied, are.some); limits = n.limits; failed = n.failed }
 
     -- The boot is on its way.
     pub leap_comes : (x : PowerOn) → x.geometry ≡ old.geometry → HasCome x p old.content → HasCome x q new.content

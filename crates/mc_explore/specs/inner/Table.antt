@@ -6,7 +6,7 @@ use Rattle.mc_explore.specs.{Right.{judged}, declared.census.CensusOf.{CensusOf}
 use Rattle.mc_explore.specs.{declared.run.Run.{Run}, declared.table.Below.TheVariants.{Apart, Joined}, declared.table.Child.{Child}, declared.table.Level.{Level}}
 use Rattle.mc_explore.specs.inner.Runs.{AreOf, begin_of}
 use Rattle.mc_explore.specs.inner.Totals.{Totals, merged, cut_off, no_totals, report_totals, totals}
-use Rattle.mc_tree.specs.{Tree.{Allowed, Beyond, Tree}, facts.Order.{HasPassed}, inner.Weights.{IsShared, WeighAlike, from, path_tree, shared_below, weight}}
+use Rattle.mc_tree.specs.{Tree.{Allowed, Beyond, Tree, landed}, facts.Order.{HasPassed}, inner.Weights.{IsShared, WeighAlike, from, path_tree, shared_below, weight}}
 use Rattle.mc_walk.specs.{TreeModel.{TreeModel}, Walks.{IsPath, IsSame, Walked}}
 
 -- The censuses of the children of one node.
@@ -145,3 +145,14 @@ abbrev pub GoesOnAlike : {N A T B : Type 0} → (B → TreeModel N A T) → (B �
 GoesOnAlike model report_of walk =
     (e : Expectation) (l : List ℕ) (number : ℕ) → walk.path ≡ l ++ number ∷ []
     → WeighAlike totals (paths_of (model walk.flash_tree)) (own_totals (paths_of (model walk.flash_tree)) (report_of walk.flash_tree) e) (l ++ (number + 1) ∷ []) (l ++ number ∷ [])
+
+-- It went on over so many children of the node before, each of which has the totals of the one where it stood.
+pub record PassesAlike {N A T B : Type 0} (model : B → TreeModel N A T) (report_of : B → List ℕ → Report) (old : Walked B) (count : ℕ) (new : Walked B) : Type 0 where
+  pub same : IsSame old new
+  pub limits : HasSameLimits old new
+  pub stands : new.stands ≡ true
+  pub path_is : (l : List ℕ) (number : ℕ) → old.path ≡ l ++ number ∷ [] → new.path ≡ l ++ (number + count) ∷ []
+  pub more : (l : List ℕ) (number : ℕ) → old.path ≡ l ++ number ∷ []
+      → number + count < (model old.flash_tree).tree.width (landed (model old.flash_tree).tree (model old.flash_tree).root l)
+  pub alike : (e : Expectation) (l : List ℕ) (number j : ℕ) → old.path ≡ l ++ number ∷ [] → j ≤ count
+      → WeighAlike totals (paths_of (model old.flash_tree)) (own_totals (paths_of (model old.flash_tree)) (report_of old.flash_tree) e) (l ++ (number + j) ∷ []) (l ++ number ∷ [])

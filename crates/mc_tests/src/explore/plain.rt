@@ -43,6 +43,16 @@ impl FlashTree for Plain<'_> {
         false
     }
 
+    fn pass_twins<F: Flash>(
+        self,
+        _flash: &mut F,
+        _at: &mut Boot,
+        _child: &Summary,
+        _most: u32,
+    ) -> Result<u32, AllocError> {
+        Ok(0)
+    }
+
     fn first_child<F: Flash>(self, flash: &mut F, summary: &Summary) -> Result<Boot, AllocError> {
         self.boots.first_child(flash, summary)
     }

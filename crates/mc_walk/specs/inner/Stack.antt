@@ -2,7 +2,7 @@
 use Rattle.std.specs.Prelude.{Bool, IfSome, List, Option, Some, [], false, length, map, true, ℕ, ◌++◌, ◌+◌, ◌<◌, ◌^◌, ◌∷◌, ◌≡◌, ◌≤◌}
 use Rattle.mc_flash.specs.{Usage.{Checkpoint, Counts, HasRoom, LeaveRoom, Seen, checkpoint_of, marked, plus, times}}
 use Rattle.mc_tree.specs.Tree.{landed}
-use Rattle.mc_walk.specs.{TreeModel.{HasNext, IsAt, IsTwin, TreeModel, owed_there}, declared.frame.Frame.{Frame}}
+use Rattle.mc_walk.specs.{TreeModel.{AreTwinsOn, HasNext, IsAt, IsTwin, TreeModel, owed_there}, declared.frame.Frame.{Frame}}
 
 -- The path that the frames stand for.
 abbrev pub path_of : {A T : Type 0} → List (Frame A T) → List ℕ
@@ -125,6 +125,29 @@ module _ {N A T : Type 0} (k : TreeModel N A T) where
     pub bound : ℕ
     pub at_most : length before < bound
     pub roomy : IsRoomy bound seen
+
+  -- The flash stands at the child of the last frame, which has that summary. There is room to go on from there, and to mark the flash.
+  pub record CanPass (seen : Seen) (fs : List (Frame A T)) (summary : T) : Type 0 where
+    pub before : List (Frame A T)
+    pub frame : Frame A T
+    pub frames_are : fs ≡ before ++ frame ∷ []
+    pub comes : Comes seen before frame
+    pub summary_is : k.IsSummary (k.tree.child (node_of before) frame.number) summary
+    pub bound : ℕ
+    pub at_most : length before < bound
+    pub roomy : IsRoomy bound seen
+
+  -- From there it went on to the last of so many twins, where it stands.
+  pub record HasPassed (old : Seen) (all : List (Frame A T)) (summary : T) (count : ℕ) (new : Seen) (fs : List (Frame A T)) : Type 0 where
+    pub stands : Stands new fs summary
+    pub limits : new.usage.limits ≡ old.usage.limits
+    pub before : List (Frame A T)
+    pub frame : Frame A T
+    pub next : Frame A T
+    pub frames_are : all ≡ before ++ frame ∷ []
+    pub next_are : fs ≡ before ++ next ∷ []
+    pub number_is : next.number ≡ frame.number + count
+    pub twins : AreTwinsOn k (node_of before) frame.number count summary
 
   -- The node before the last frame has a further child, which is a twin of the one where a walk stands, with that summary.
   pub record IsTwinOn (seen : Seen) (fs : List (Frame A T)) (stood : Option T) (summary : T) : Type 0 where

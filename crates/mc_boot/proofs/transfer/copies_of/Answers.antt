@@ -1,4 +1,4 @@
-use Rattle.std.proofs.Common.{arith, ℕ, ◌+◌, ◌-◌, ◌/◌, ◌<◌, ◌≡◌, ◌≤◌}
+use Rattle.std.proofs.Common.{arith, ℕ, ◌+◌, ◌-◌, ◌/◌, ◌≤◌}
 use Rattle.mc_boot.proofs.Courses.{can_copies, get_later_copy}
 use Rattle.mc_boot.proofs.transfer.copies_of.Goals as goal
 

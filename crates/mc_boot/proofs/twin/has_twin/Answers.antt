@@ -20,6 +20,6 @@ returns-then-sector-sectors g c = λ x layout sized come early start is.
     let here = c.layout-layout.ensures ∙ sym layout in
     let ok : IsLayout x.geometry = subst IsLayout here c.unit-unit.ensures.valid in
     let next : slice_get (to_come c.args.cut.now) 0 ≡ Some (Erase a.slot a.sector) = cc in
-    erase_twin x (progress c.args.cut.now) _ ok sized come early a.slot a.sector next
+    erase_twin x (progress c.args.cut.now) _ ok sized come a.slot a.sector next
     (subst (λ (y : Geometry). a.sector < sectors_of y a.slot) here (rw c.sectors.ensures.value at c.if-sector-sectors.true))
     (subst (λ (y : Geometry). changes_nothing y (g.F.Flash.seen c.args.flash.now).content (Erase a.slot a.sector) ≡ true) (sym layout) (c.is_erased.ensures is))

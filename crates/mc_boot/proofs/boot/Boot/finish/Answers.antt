@@ -1,4 +1,3 @@
-use Rattle.std.proofs.Common.{arith, sym, ◌≡◌, ◌∙◌}
 use Rattle.mc_boot.specs.Boot.{progress, to_come, goes_further}
 use Rattle.mc_boot.specs.facts.Steps.{comes_allows, counts_on_both, none_first, step_spends_both}
 use Rattle.mc_boot.proofs.boot.Boot.finish.Goals as goal

@@ -1,6 +1,5 @@
-use Rattle.std.proofs.Common.{Err, false, refl, true, ◌≡◌}
-use Rattle.mc_boot.proofs.boot.Boot.stride.Given.{Over}
-use Rattle.mc_boot.specs.{Boot.{LeapsOn, progress}, facts.Leaps.{leap_comes, leap_counts, leap_less, then_comes, then_counts}, facts.Steps.{step_counts, step_less}}
+use Rattle.std.proofs.Common.{Err, refl, ◌≡◌}
+use Rattle.mc_boot.specs.{Boot.{progress}, facts.Leaps.{leap_comes, leap_counts, leap_less, then_comes, then_counts}, facts.Steps.{step_counts, step_less}}
 use Rattle.mc_flash.specs.declared.flash.FlashError.TheVariants as errors
 use Rattle.mc_boot.proofs.boot.Boot.stride.Goals as goal
 

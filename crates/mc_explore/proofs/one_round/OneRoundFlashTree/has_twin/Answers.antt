@@ -1,4 +1,4 @@
-use Rattle.std.proofs.Common.{ap, arith, subst, sym, ◌∙◌, ◌≡◌}
+use Rattle.std.proofs.Common.{ap, arith, subst, sym, ◌+◌, ◌∙◌, ◌≡◌}
 use Rattle.mc_boot.specs.{Boot.{HasCome, begun, progress}, Plan.{PowerOn, again, plan}, Twins.{HasTwin}}
 use Rattle.mc_explore.proofs.Onwards.{twin_here}
 use Rattle.mc_explore.specs.inner.OneRound.{begins}
@@ -15,4 +15,4 @@ returns g c = λ is x i at more summary.
     let come = subst (HasCome x (progress c.args.at.now)) there at.on_is.1.come in
     let begins_so = subst (λ (t : Content). progress child.boot ≡ begun x.rules (plan (again x t))) there summary.1.boot_is in
     let has = c.has_twin.ensures x layout sized come (omega (arith, more, at.on_is.1.count_is)) begins_so is in
-    twin_here (begins c.args.self) x i c.args.at.now child at.on_is summary (subst (λ (t : Content). HasTwin x t c.args.at.now.done) at.content_is has)
+    twin_here (begins c.args.self) x i c.args.at.now child at.on_is summary (subst (λ (t : Content). HasTwin x t (c.args.at.now.done + 1)) at.content_is has)
