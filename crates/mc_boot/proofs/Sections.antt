@@ -5,10 +5,10 @@ use Rattle.std.proofs.lemmas.Nat.{div-add-mod', div-mul-add, mod-mul-add}
 use Rattle.mc_boot.specs.{Copies.{AreCopies, copy_at}, declared.transfer.Copies.{Copies}, inner.Section.{IsTransferOf}}
 use Rattle.std.specs.Prelude.{Bool, IfSome, List, None, Option, Some, [], drop, get_or, if◌then◌else◌, length, map, max, refl, slice_get, suc, take, false, true, zero, ℕ, ◌∷◌, ◌%◌, ◌*◌, ◌++◌, ◌+◌, ◌-◌, ◌/◌, ◌<◌, ◌≡◌, ◌≤◌}
 use Rattle.mc_boot.specs.Boot.{list_from}
-use Rattle.mc_boot.specs.Plan.{closing, is_revert, is_test, new_list, opening_writes, preparation_writes, resumed_list, steps, swap_list, trailer_erase, trailer_erases, transfers, write_count}
+use Rattle.mc_boot.specs.Plan.{closing, is_revert, is_test, new_list, opening_writes, preparation_writes, steps, swap_list, trailer_erase, trailer_erases, transfers, write_count}
 use Rattle.mc_boot.specs.{declared.course.Opening.{Opening}, declared.course.Opening.TheVariants.{New, Resumed}, declared.section.Counted.{Counted}, declared.section.Section.{Section}}
 use Rattle.mc_boot.specs.{declared.section.Section.TheVariants.{Nothing, Erases, Flag, Size, Magic, Transfers}, declared.transfer.Transfer.{Transfer}}
-use Rattle.mc_boot.specs.inner.Section.{AreCounted, count_in, counted, first_of, head_list, is_confirmed, ops_in, ops_of_all, preparation_sections, resumed_sections, swap_sections}
+use Rattle.mc_boot.specs.inner.Section.{AreCounted, count_in, counted, first_of, head_list, is_confirmed, ops_in, ops_of_all, preparation_sections, swap_sections}
 use Rattle.mc_boot.specs.{facts.Bounds.{course_count}, facts.Lengths.{length-magic, length-size, length-steps, length-transfers, length_pieces}}
 use Rattle.mc_flash.specs.{Geometry.{Geometry, IsLayout, greatest_sectors, trailer_sectors}, declared.flash.Grain.{Grain}, declared.op.Op.{Op}}
 use Rattle.mc_flash.specs.{declared.op.Slot.{Slot}, declared.op.Slot.TheVariants.{Primary, Secondary}, facts.Layouts.{small_unit}}
@@ -82,17 +82,11 @@ module _ (c : Grain) (g : Geometry) (n : ℕ) where
   pub swap_is : (kind : SwapType) (size : ℕ) → ops_of (swap_sections kind size) ≡ swap_list c g kind size n
   swap_is kind size = grind (arith, append_assoc)
 
-  pub resumed_is : (first : ℕ) (erases image_ok : Bool) → ops_of (resumed_sections first erases image_ok) ≡ resumed_list g n first erases image_ok
-  resumed_is first erases image_ok = grind (arith, append_assoc)
-
   pub opening_is : (kind : SwapType) (size : ℕ) → ops_of (take 5 (swap_sections kind size)) ≡ trailer_erases g Primary ++ opening_writes c g kind size
   opening_is kind size = grind (arith, append-nil)
 
   pub revert_is : (kind : SwapType) (size : ℕ) → is_revert kind ≡ true → new_list c g kind size n ≡ ops_of (preparation_sections size) ++ ops_of (swap_sections kind size)
   revert_is kind size revert = rw (revert, preparation_is size, swap_is kind size) (sym (append_assoc (trailer_erases g Secondary) (preparation_writes c g size) (swap_list c g kind size n)))
-
-  pub other_is : (kind : SwapType) (size : ℕ) → is_revert kind ≡ false → new_list c g kind size n ≡ ops_of (swap_sections kind size)
-  other_is kind size other = rw (other, swap_is kind size) refl
 
   -- a course in three parts
   pub parts_are : (o : Opening) → list_from c g n o ≡ head_list c g o ++ (ops_in c g n (Transfers (first_of o)) ++ closing g (is_confirmed o))

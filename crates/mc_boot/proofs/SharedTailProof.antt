@@ -1,18 +1,13 @@
 -- What the test of two courses, and of the sectors that are erased, says of the flashes after a cut.
-use Rattle.std.specs.Prelude.{◌≡◌, ℕ, zero, suc, ◌+◌, ◌*◌, ◌<◌, ◌≤◌, max, true, List, [], ◌∷◌, length, map, take, drop, slice_get, Some, IfSome}
+use Rattle.std.specs.Prelude.{◌≡◌, ℕ, zero, suc, ◌+◌, ◌<◌, ◌≤◌, max, true, List, [], ◌∷◌, length, map, take, drop, slice_get, Some, IfSome}
 use Rattle.std.proofs.{Common.{arith, sym, ap, subst, ◌∙◌, inl, inr}, lemmas.Bool.{cases_lt}, lemmas.Bool.Decides.{nat_tests}}
-use Rattle.mc_flash.specs.{Flash.{CanTry, Content, size_of}, facts.Layouts.{sector_inside}, Geometry.{Geometry, IsLayout, in_pieces}}
-use Rattle.mc_flash.specs.{declared.flash.Grain.{Grain}, declared.op.Op.{Op}, declared.op.Op.TheVariants.{Erase}, declared.op.Slot.{Slot}}
+use Rattle.mc_flash.specs.{Flash.{Content}, Geometry.{Geometry, IsLayout}}
+use Rattle.mc_flash.specs.{declared.op.Op.{Op}}
 use Rattle.mc_boot.specs.{Joins.{IsCut, erases_of, kept_of}, Boot.{IsBootOf, begun, progress, course_list, whole_list}, Outcome.{Report, at, ops_of}}
 use Rattle.mc_boot.specs.{Plan.{plan, PowerOn, again}, inner.Idle.{AllIdleBut, changes_nothing}, SharedTail.{IsSharedTail, index_in_parent}}
 use Rattle.mc_boot.specs.{facts.Run.{come_at}, declared.boot.Boot.{Boot}, declared.course.Course.{Course}, declared.shared_tail.SharedTail.{SharedTail}}
-use Rattle.mc_boot.proofs.{CourseJoins.{layout_is, met_joins, sectors_pieces, joins_meet}, Meets.{Fit, Meets, Sector, erase_of}}
+use Rattle.mc_boot.proofs.{CourseJoins.{layout_is, met_joins, joins_meet}, Meets.{Fit, Meets, Sector, erase_of}}
 use Rattle.mc_boot.proofs.{Erased.{AreErased, erased_here}, Joins.{Joins, joined}, SharedTails.{among, beyond_erased, fits, late, next_erases, stays}}
-
--- A sector that is erased lies in its slot, whatever the pieces in which sectors are copied.
-pub sector_there : (c : Grain) (g : Geometry) (slot : Slot) (sector : ℕ) → CanTry (in_pieces c g) (Erase slot sector)
-    → sector * g.sector + g.sector ≤ size_of g slot
-sector_there c g slot sector can = sector_inside g slot sector (omega (arith, can, sectors_pieces c g slot))
 
 module _ (g : Geometry) (u : Content) where
   idle_before : (es : List Sector) (ops : List Op) (n : ℕ) → take (length es) ops ≡ map erase_of es → Fit g es u

@@ -1,7 +1,7 @@
 -- What a step of a boot spends. Proved here, so that the crates above can cite it.
 use Rattle.std.specs.Prelude.{◌≡◌, ◌+◌, ◌<◌, ◌≤◌, false, List, [], ◌∷◌, length, slice_get, is_some, Option, Result, Ok, Err, refl}
 use Rattle.std.proofs.Common.{arith}
-use Rattle.mc_flash.specs.{Usage.{IsFull, Seen, GivesUp, RanOut, LeaveRoom, Allows, room_of}}
+use Rattle.mc_flash.specs.{Usage.{IsFull, Seen, GivesUp, Allows}}
 use Rattle.mc_flash.specs.{facts.Spends.{Notes, done_notes}, declared.op.Op.{Op}, declared.flash.FlashError.{FlashError}}
 use Rattle.mc_flash.specs.declared.flash.FlashError.TheVariants as errors
 use Rattle.mc_boot.specs.Boot.{Progress, Steps, CountsOn, left_of}
@@ -73,19 +73,7 @@ module _ (p q : Progress) (old new : Seen) where
       fewer : (result : Result (Unit {0}) FlashError) → (result ≡ Err errors.Memory → ⊥) → Steps p old result q new → 0 < length p.to_come → length q.to_come < length p.to_come
       fewer result other steps some = grind arith
 
-  -- With room for all that is to come an allocation failed only where it fails a flash that does not count.
-  pub step_ran_out : (result : Result (Unit {0}) FlashError) → result ≡ Err errors.Memory → Steps p old result q new
-      → LeaveRoom old.usage.counts (left_of old.geometry p) (room_of old.usage.limits) → RanOut old new
-  step_ran_out result wanted steps room = grind arith
-
   -- There is still room for all that is to come.
-  pub step_allows : (result : Result (Unit {0}) FlashError) → (result ≡ Err errors.Memory → ⊥) → Steps p old result q new
-      → new.geometry ≡ old.geometry → Allows (left_of old.geometry p) old → Allows (left_of new.geometry q) new
-  step_allows result other steps same allows =
-      let c = step_counts result steps in
-      let limits = (step_spends result other steps).limits in
-      grind (arith, limits)
-
   pub comes_allows : new.geometry ≡ old.geometry → CountsOn p q old new → Comes p q old new → Allows (left_of old.geometry p) old → Allows (left_of new.geometry q) new
   comes_allows same counts comes allows = let limits = comes.spends.limits in grind (arith, limits)
 
