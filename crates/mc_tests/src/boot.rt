@@ -8,7 +8,7 @@ mod joins;
 mod lives;
 
 use crate::common::{flash_of, same, same_at};
-use mc_boot::{Boot, BootResult, Outcome, SharedTail, confirm, has_twin, pass_twins};
+use mc_boot::{Boot, BootResult, Outcome, SharedTail, confirm, has_twin};
 use mc_flash::{Flash, SnapFlash};
 use mc_trailer::Rules;
 use std::process::Abort;
@@ -137,34 +137,5 @@ fn cuts_with_a_twin(rt: HostRuntime) {
     for cut in 0..18 {
         let found = is_followed_alike(&mut flash_of(&rt, rt.alloc(), "IMAGES"), cut);
         same_at(&rt, &cut, &found, &matches!(cut, 0 | 5 | 10 | 11 | 14 | 15));
-    }
-}
-
-/// Over how many copies the power can fail alike after a cut.
-fn passed_after(flash: &mut SnapFlash, cut: u32, most: u32) -> Option<(u32, u32)> {
-    let mut boot = Boot::cold(flash, Rules::PLAIN);
-    run(flash, &mut boot, cut);
-    let next = Boot::cold(flash, Rules::PLAIN);
-    match pass_twins(flash, &mut boot, &next, most) {
-        Ok(passed) => Some((passed, boot.count())),
-        Err(_) => None,
-    }
-}
-
-/// A row has a cut, how many copies are passed at most, and how many are, with the operations of the boot that happened then: in the
-/// second transfer both copies, or as many as are wanted; in the first none, nor before an erase.
-static PASSED: [(u32, u32, (u32, u32)); 5] = [
-    (10, 9, (2, 12)),
-    (10, 1, (1, 11)),
-    (11, 9, (1, 12)),
-    (6, 9, (0, 6)),
-    (9, 9, (0, 9)),
-];
-
-#[test]
-fn copies_passed_alike(rt: HostRuntime) {
-    for (cut, most, wanted) in &PASSED {
-        let found = passed_after(&mut flash_of(&rt, rt.alloc(), "IMAGES"), *cut, *most);
-        same_at(&rt, cut, &found, &Some(*wanted));
     }
 }

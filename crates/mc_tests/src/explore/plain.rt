@@ -166,7 +166,8 @@ impl Subject for Plain<'_> {
         None
     }
 
-    fn row_ahead(self, _kept: &(), _path: &Schedule, _rows: &RowsAhead<()>) -> Option<Row> {
+    fn row_ahead(self, _kept: &(), _path: &Schedule, rows: &mut RowsAhead<()>) -> Option<Row> {
+        rows.next += 1;
         None
     }
 
