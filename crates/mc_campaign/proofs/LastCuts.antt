@@ -1,11 +1,12 @@
 -- Rows of campaigns that are told by those at the children of another node.
 use Rattle.std.proofs.Common.{Bool, List, Some, [], ap, arith, false, length, refl, subst, sym, true, ℕ, ◌++◌, ◌∙◌, ◌∷◌, ◌≡◌}
-use Rattle.std.specs.Prelude.{if◌then◌else◌, nat_lt, ◌-◌}
-use Rattle.mc_boot.specs.{Outcome.{ops_of, outcome_of, shown}, Plan.{PowerOn}, SharedTail.{index_in_parent}, declared.outcome.Outcome.{Outcome}}
+use Rattle.std.proofs.lemmas.Bool.Decides.{nat_tests}
+use Rattle.std.specs.Prelude.{if◌then◌else◌, nat_lt, ◌-◌, ◌+◌, ◌<◌, ◌≤◌}
+use Rattle.mc_boot.specs.{Outcome.{Report, ops_of, outcome_of, shown}, Plan.{PowerOn}, SharedTail.{index_in_parent}, declared.outcome.Outcome.{Outcome}}
 use Rattle.mc_campaign.proofs.{Along.{labelled-push}, Ways.{child}}
 use Rattle.mc_campaign.specs.{Campaigns.{IsInOrder}, declared.last_cuts.Ahead.{Ahead}, declared.last_cuts.Ends.{Ends}, declared.rounds.TwoRounds.{TwoRounds}}
-use Rattle.mc_campaign.specs.{Rows.{HasOutcomes}, facts.Cuts.{along_ordered}, facts.Paths.{replayed_at}}
-use Rattle.mc_campaign.specs.inner.LastCuts.{AreAhead, AreLikePaths, EndSo, EndSoAt, IsLikeNode, cut_at, first_there, first_width, node_of}
+use Rattle.mc_campaign.specs.{Rows.{HasOutcomes, ShownRow}, facts.Cuts.{along_ordered, number_later}, facts.Paths.{replayed_at}}
+use Rattle.mc_campaign.specs.inner.LastCuts.{AreAhead, AreLikePaths, EndSo, EndSoAt, IsLikeNode, cut_at, first_there, first_width, left_in_round, node_of}
 use Rattle.mc_campaign.specs.inner.TwoRounds.{began_at, cuts_along, later_from, rounds, second_start}
 use Rattle.mc_explore.specs.{declared.at_cuts.AtCuts.{AtCuts}, inner.OneRound.{begins, boots}}
 use Rattle.mc_tree.specs.{Tree.{Allowed, RoundNode, label, round_one, round_two}, facts.Order.{landed-push}, facts.Rounds.{outside}}
@@ -64,3 +65,32 @@ module _ (t : TwoRounds) (kept : AtCuts Ends) (path : List ℕ) (ahead : Ahead) 
       let first = rw (sym at, sym are.in_first_is) at ends.0 in
       let second = rw (sym at) at ends.1 in
       replayed_at t.confirms start (length then_path) then_path (cuts_along t.confirms start then_path) _ _ (record { member = (omega arith, allowed); cuts_are = refl }) first second
+
+  -- A row of that campaign, which ends so.
+  pub row_there : (ends : Ends) → AreLikePaths t then_path (kept.parent_path ++ index_in_parent ahead.shared_tail next ∷ [])
+      → EndSoAt t (kept.parent_path ++ index_in_parent ahead.shared_tail next ∷ []) ends → (row : ShownRow) → row.campaign ≡ ahead.campaign ++ cut_at ahead.in_first next ∷ []
+      → row.first ≡ shown (first_there ahead ends next) → row.second ≡ shown ends.second → (row.campaign ≡ cuts_along t.confirms start then_path) × HasOutcomes start t.confirms row
+  row_there ends like told row campaign first second =
+      let key = campaign ∙ campaign_there in
+      let H : List (ℕ × ℕ) → Report → Report → Type 0 = λ c one two. HasOutcomes start t.confirms (record { campaign = c; first = one; second = two }) in
+      let there = outcomes_there ends like told in (
+        key,
+        subst (λ c. H c row.first row.second) (sym key) (subst (λ o. H (cuts_along t.confirms start then_path) o row.second) (sym first)
+            (subst (λ o. H (cuts_along t.confirms start then_path) (shown (first_there ahead ends next)) o) (sym second) there)),
+      )
+
+-- Last cuts of one round, so much later.
+module _ (in_first number count j : ℕ) (left : j < left_in_round in_first number count) where
+  pub same_round : nat_lt (number + j) in_first ≡ nat_lt number in_first
+  same_round = grind (arith, nat_tests)
+
+  pub still_there : number + j < count
+  still_there = grind (arith, nat_tests)
+
+  pub cut_later : cut_at in_first (number + j) ≡ number_later j (cut_at in_first number)
+  cut_later = by (nat_lt number in_first) same_round (λ is. grind (arith, nat_tests))
+    where
+      by : (b : Bool) → nat_lt (number + j) in_first ≡ b → (b ≡ false → in_first ≤ number)
+          → (if nat_lt (number + j) in_first then (1, number + j) else (2, number + j - in_first)) ≡ number_later j (if b then (1, number) else (2, number - in_first))
+      by true is low = rw is refl
+      by false is low = rw is (ap (λ n. (2, n)) (omega (arith, low refl)))

@@ -1,9 +1,10 @@
 //! Campaigns of power cuts.
-ghost use Rattle.std.specs.Prelude.{◌≡◌, ◌↔◌, ℕ, List, ◌+◌, ◌*◌, ◌<◌, ◌≤◌, ◌^◌, [], ◌∷◌, ◌++◌, length, decimal, is_some, true, Some, Ok, IfOk, IfSome, OnOk, OnErr, MatchResult};
+ghost use Rattle.std.specs.Prelude.{◌≡◌, ◌↔◌, ℕ, List, ◌+◌, ◌*◌, ◌<◌, ◌≤◌, ◌^◌, [], ◌∷◌, ◌++◌, length, decimal, false, is_some, true, Some, Ok, IfOk, IfSome, OnOk, OnErr, MatchResult};
 ghost use Rattle.mc_tree.specs.Tree.{Before};
 ghost use Rattle.mc_campaign.specs.Campaigns.{IsInOrder, Precedes, in_round, number_of};
 ghost use Rattle.mc_campaign.specs.Texts.{campaign_text, cut_text, FitsCut, IsAdded, IsCampaign, IsCut, ReadsCampaign};
-ghost use Rattle.mc_campaign.specs.facts.Cuts.{last_round};
+ghost use Rattle.mc_campaign.specs.facts.Cuts.{last_round, number_later};
+ghost use Rattle.mc_start.specs.Start.{IsNextText, on_last};
 
 use mc_explore::{Line, MOST_CUTS, MOST_LINE, Schedule};
 use std::fmt;
@@ -160,6 +161,28 @@ impl Campaign {
     {
         self.cuts[self.len] = (round, index);
         self.len += 1;
+    }
+
+    /// Makes the number of its last cut one greater, where it has one that is not the greatest number; says whether it has.
+    #[inline]
+    pub(crate) fn count_up(&mut self) -> bool
+        ensures counted { result ≡ true → self.new ≡ on_last (number_later 1) self.old }
+        ensures text { result ≡ true → IsNextText (campaign_text self.old)
+            (campaign_text self.new) }
+        ensures same { result ≡ false → self.new ≡ self.old }
+    {
+        if self.len == 0 {
+            return false;
+        }
+        let last = self.len - 1;
+        let (round, index) = self.cuts[last];
+        match index.checked_add(1) {
+            Some(more) => {
+                self.cuts[last] = (round, more);
+                true
+            }
+            None => false,
+        }
     }
 
     /// The same with one cut more, where there is room for it and none of a later round stands before it.

@@ -46,13 +46,14 @@ impl Subject for TwoRounds<'_> {
     ghost use Rattle.mc_explore.specs.inner.OneRound.{begins};
     ghost use Rattle.mc_boot.specs.Plan.{PowerOn};
     ghost use Rattle.mc_start.specs.Start.{start_digest};
-    ghost use Rattle.mc_campaign.specs.Texts.{cursor_of, fields_of};
+    ghost use Rattle.mc_campaign.specs.Texts.{campaign_text, cursor_of, fields_of};
+    ghost use Rattle.mc_explore.specs.inner.Exploring.{AreNextTexts};
     ghost use Rattle.mc_campaign.specs.Rows.{campaigns};
     ghost use Rattle.mc_campaign.specs.Rows as states;
     ghost use Rattle.mc_campaign.specs.inner.LastCuts.{AreAhead, AreLikePaths, EndSoAt};
     ghost use Rattle.mc_campaign.specs.inner.TwoRounds.{model_of};
     ghost use Rattle.mc_explore.specs.inner.LastCuts.{AreKept};
-    ghost use Rattle.mc_campaign.specs.facts.Keys.{are_campaigns, campaign_costs, campaigns_clear, three_more};
+    ghost use Rattle.mc_campaign.specs.facts.Keys.{are_campaigns, campaign_costs, campaigns_clear, counted_up, row_up, three_more};
     ghost use Rattle.mc_campaign.specs.facts.Listed.{some_rest};
 
     ghost Shown = { states.ShownRow };
@@ -84,6 +85,8 @@ impl Subject for TwoRounds<'_> {
     ghost holds = { λ t kept. AreKept (model_of t) (AreLikePaths t) (EndSoAt t) kept };
 
     ghost is_ahead = { λ t kept path ahead count. AreAhead t kept path ahead count };
+
+    ghost up = { counted_up };
 
     ghost more = { 3 };
 
@@ -142,14 +145,28 @@ impl Subject for TwoRounds<'_> {
     ) -> Option<CampaignRow> {
         let number = rows.next;
         rows.next += 1;
-        let told = kept.find(&rows.ahead.shared_tail, number, &mut rows.near)?;
+        rows.counted_up = 0;
+        let (told, alike) = kept.find(&rows.ahead.shared_tail, number, &mut rows.near)?;
         let campaign = rows.ahead.campaign_of(number)?;
-        let Ends { first, second } = rows.ahead.ends_of(number, told);
+        let Ends { first, second } = rows.ahead.ends_of(number, &told);
+        let left = rows.ahead.left_in_round(number, rows.count);
+        rows.counted_up = alike.min(left.saturating_sub(1));
         Some(CampaignRow {
             campaign,
             first,
             second,
         })
+    }
+
+    #[inline]
+    fn count_up(row: &mut CampaignRow) -> bool
+        ensures counted { result ≡ true → states.shown_row row.new
+            ≡ counted_up 1 (states.shown_row row.old) }
+        ensures text { result ≡ true → AreNextTexts campaigns (states.shown_row row.old)
+            (states.shown_row row.new) }
+        ensures same { result ≡ false → row.new ≡ row.old }
+    {
+        row.campaign.count_up()
     }
 
     #[inline]
@@ -204,12 +221,13 @@ impl Subject for TwoRounds<'_> {
         }
     }
 
-    fn put_row(row: &CampaignRow, line: &mut Line, labels: &Labels)
+    fn put_row(row: &CampaignRow, line: &mut Line, labels: &Labels) -> usize
         requires { line.old ≡ [] }
+        ensures key { result ≡ length (campaign_text (states.shown_row row.now).campaign) }
         ensures text { line.new ≡ campaigns.row_text (states.shown_row row.now) }
         ensures length { length line.new < 512 }
     {
-        row.put_into(line, labels);
+        row.put_into(line, labels)
     }
 
     fn put_key(key: &Campaign, line: &mut Line)
@@ -229,6 +247,8 @@ impl Subject for TwoRounds<'_> {
     }
 
     ghost are_keys = { λ t. are_campaigns (begins t.one_round) t.confirms };
+
+    ghost up_more = { row_up };
 
     ghost order = { pairs_in_order };
 

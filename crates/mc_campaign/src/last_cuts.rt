@@ -2,7 +2,7 @@
 ghost use Rattle.std.specs.Prelude.{◌≡◌, ◌+◌, ◌++◌, ◌<◌, ◌∷◌, [], is_some, length, IfSome, true};
 ghost use Rattle.mc_campaign.specs.Campaigns.{IsInOrder};
 ghost use Rattle.mc_explore.specs.inner.LastCuts.{AreKept};
-ghost use Rattle.mc_campaign.specs.inner.LastCuts.{AreAhead, AreLikePaths, EndSoAt, cut_at, first_there};
+ghost use Rattle.mc_campaign.specs.inner.LastCuts.{AreAhead, AreLikePaths, EndSoAt, cut_at, first_there, left_in_round};
 ghost use Rattle.mc_campaign.specs.inner.TwoRounds.{model_of};
 ghost use Rattle.mc_walk.specs.Walks.{IsPath};
 
@@ -48,6 +48,17 @@ impl Ahead {
         }
     }
 
+    // How many of the last cuts from that one on, of so many in all, lie in the same round.
+    pub(crate) fn left_in_round(&self, number: u32, count: u32) -> u32
+        ensures { result ≡ left_in_round self.now.in_first number count }
+    {
+        if number < self.in_first {
+            self.in_first.min(count).saturating_sub(number)
+        } else {
+            count.saturating_sub(number)
+        }
+    }
+
     // How both rounds end there, as it was told.
     pub(crate) fn ends_of(&self, number: u32, told: &Ends) -> Ends
         ensures first { result.first ≡ first_there self.now told.now number }
@@ -80,7 +91,7 @@ pub(crate) fn tell_campaigns<F: Flash>(
     ensures ahead { IfSome result (λ rows. AreAhead walk.now.flash_tree kept.new path.now
         rows.ahead rows.count) }
     ensures deep { IfSome result (λ rows. length path.now + 1 ≡ walk.now.bound) }
-    ensures fresh { IfSome result (λ rows. rows.next ≡ 0) }
+    ensures fresh { IfSome result (λ rows. (rows.next ≡ 0) × (rows.counted_up ≡ 0)) }
 {
     // The path has no more steps than a schedule has cuts.
     let _cuts = path.cuts();
@@ -97,5 +108,6 @@ pub(crate) fn tell_campaigns<F: Flash>(
         count: rows.count,
         next: rows.next,
         near: rows.near,
+        counted_up: rows.counted_up,
     })
 }

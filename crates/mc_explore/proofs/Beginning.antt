@@ -1,5 +1,5 @@
 -- A walk that was loaded for a start goes along the path of a key.
-use Rattle.std.specs.Prelude.{◌≡◌, ◌≤◌, ℕ, Bool, true, false, List, []}
+use Rattle.std.specs.Prelude.{◌≡◌, ◌≤◌, ℕ, Bool, true, false, List, [], Option}
 use Rattle.std.proofs.Common.{arith, ap, ◌∙◌}
 use Rattle.mc_tree.specs.Tree.{After}
 use Rattle.mc_flash.specs.Usage.{Spent}
@@ -13,9 +13,9 @@ use Rattle.mc_explore.proofs.Visiting.{same_begun}
 
 module _ {B C K R U N A T : Type 0} (x : Subject C K R U) (model : B → TreeModel N A T) (begins : B → PowerOn) (choice : B → C) (key_of : B → List ℕ → K)
     (keys : (b : B) → AreKeys x (model b).tree (model b).root (begins b) (choice b) (key_of b)) where
-  pub started : (counted : Bool) (start : PowerOn) (chosen : C) (bound : ℕ) (w : Walked B) (last : K) → IsLoaded model begins choice counted start chosen bound w → last ≡ x.no_key → bound ≤ 16
-      → IsSound model begins choice key_of counted start chosen bound (record { walk = w; phase = phases.Fresh; last = [] }) last
-  started counted start chosen bound w last l none at_most = grind arith
+  pub started : {W : Type 0} (row : Option W) (counted : Bool) (start : PowerOn) (chosen : C) (bound : ℕ) (w : Walked B) (last : K) → IsLoaded model begins choice counted start chosen bound w → last ≡ x.no_key → bound ≤ 16
+      → IsSound model begins choice key_of counted start chosen bound (record { walk = w; phase = phases.Fresh; last = []; row = row }) last
+  started {W} row counted start chosen bound w last l none at_most = grind arith
 
   module _ (counted : Bool) (start : PowerOn) (chosen : C) (bound n : ℕ) (zero_walk one two : Walked B) (summary : T) (k : K) (l : IsLoaded model begins choice counted start chosen bound zero_walk)
       (b : Begins (model zero_walk.flash_tree) zero_walk summary one) (spent : Spent n zero_walk.seen one.seen) where
@@ -42,8 +42,8 @@ module _ {B C K R U N A T : Type 0} (x : Subject C K R U) (model : B → TreeMod
       pub beyond_it : state_of begins choice two (After k) ≡ after_key start chosen bound k
       beyond_it = grind arith
 
-      pub resumed : IsSound model begins choice key_of counted start chosen bound (record { walk = two; phase = phases.Going; last = two.path }) k
-      resumed = grind arith
+      pub resumed : {W : Type 0} (row : Option W) → IsSound model begins choice key_of counted start chosen bound (record { walk = two; phase = phases.Going; last = two.path; row = row }) k
+      resumed {W} row = grind arith
 
       -- It has not taken more than its subject says.
       pub cheap : (went ≡ true → one.seen.usage.applied ≤ (model one.flash_tree).all.entries → IsCheapFor x begins one two.seen.usage.applied) → n ≤ (model zero_walk.flash_tree).all.entries
@@ -51,8 +51,8 @@ module _ {B C K R U N A T : Type 0} (x : Subject C K R U) (model : B → TreeMod
       cheap says most = grind arith
 
 -- The start of an explorer after a key is the one that its state has.
-pub same_digest : {B C K N A T : Type 0} (model : B → TreeModel N A T) (begins : B → PowerOn) (choice : B → C) (key_of : B → List ℕ → K)
-    (counted : Bool) (start : PowerOn) (chosen : C) (bound : ℕ) (t : Rowed B) (last : K) (summary : PowerOn) (c : C) (many : ℕ) (k : K) (d : List ℕ)
+pub same_digest : {B C K W N A T : Type 0} (model : B → TreeModel N A T) (begins : B → PowerOn) (choice : B → C) (key_of : B → List ℕ → K)
+    (counted : Bool) (start : PowerOn) (chosen : C) (bound : ℕ) (t : Rowed B W) (last : K) (summary : PowerOn) (c : C) (many : ℕ) (k : K) (d : List ℕ)
     → IsSound model begins choice key_of counted start chosen bound t last → state_of begins choice t.walk (position_of t.phase last) ≡ after_key summary c many k → d ≡ start_digest summary
     → d ≡ start_digest start
-same_digest {B} {C} {K} model begins choice key_of counted start chosen bound t last summary c many k d sound is at = grind arith
+same_digest {B} {C} {K} {W} model begins choice key_of counted start chosen bound t last summary c many k d sound is at = grind arith

@@ -1,10 +1,10 @@
 -- What is told at the children of one node, and the rows of the nodes whose children lie among them.
-use Rattle.std.proofs.{Common.{ap, arith, inl, inr, refl, subst, sym, ◌∙◌}, lemmas.List.{same_from_push}}
-use Rattle.std.specs.{List.{slice_get}, Prelude.{IfSome, List, None, Option, Some, [], length, ℕ, ◌++◌, ◌+◌, ◌∷◌, ◌≡◌, ◌⊎◌}}
-use Rattle.mc_boot.specs.declared.shared_tail.SharedTail.{SharedTail}
-use Rattle.mc_explore.specs.{declared.at_cuts.AtCuts.{AtCuts}, declared.at_cuts.Joined.{Joined}, declared.run.Run.{Run}, facts.Children.{child_here}, inner.Runs.{AreOf, begin_of}}
+use Rattle.std.proofs.{Common.{ap, arith, inl, inr, refl, subst, sym, ◌∙◌}, lemmas.Bool.Decides.{nat_tests}, lemmas.List.{same_from_push}}
+use Rattle.std.specs.{List.{slice_get}, Prelude.{IfSome, List, None, Option, Some, [], length, suc, zero, ℕ, ◌++◌, ◌+◌, ◌<◌, ◌∷◌, ◌≡◌, ◌≤◌, ◌⊎◌}}
+use Rattle.mc_boot.specs.{SharedTail.{index_in_parent}, declared.shared_tail.SharedTail.{SharedTail}}
+use Rattle.mc_explore.specs.{declared.at_cuts.AtCuts.{AtCuts}, declared.at_cuts.Joined.{Joined}, declared.run.Run.{Run}, facts.Children.{child_here}, inner.Runs.{AreOf, IsIn, begin_of}}
 use Rattle.mc_explore.proofs.Runs.{of_last, of_more}
-use Rattle.mc_explore.specs.inner.LastCuts.{AreKept, AreLike, AreTold, IsIndexOf, IsJoined, IsNothing, IsOneRunMore, IsToldLast}
+use Rattle.mc_explore.specs.inner.LastCuts.{AreKept, AreLike, AreTold, AreToldAlike, IsIndexOf, IsJoined, IsNothing, IsOneRunMore, IsToldLast}
 use Rattle.mc_tree.specs.{Tree.{Allowed, landed}, facts.Order.{allowed-last}}
 use Rattle.mc_walk.specs.{TreeModel.{IsChildOf, TreeModel}, Walks.{IsLastStep, IsThere, Walked}, declared.frame.Frame.{Frame}}
 
@@ -26,6 +26,22 @@ module _ {N A T O : Type 0} (k : TreeModel N A T) (IsLike : List ℕ → List �
     at_cuts = more kept.at_cuts (told_joined alike old.joined old.parent_path path index told kept.joined_is is allowed here);
     joined_is = rw (sym parent, sym joined) at kept.joined_is;
   }
+
+-- After the erases that a boot begins with the indices go on one by one.
+index_on : (x : SharedTail) (number j : ℕ) → x.erases ≤ number → index_in_parent x (number + j) ≡ index_in_parent x number + j
+index_on x number j le = grind (arith, nat_tests)
+
+-- What is told in a run is told at its later cuts too.
+pub told_alike : {O : Type 0} (x : SharedTail) (kept : AtCuts O) (number i more r : ℕ) (run : Run O) → index_in_parent x number ≡ kept.first + i → slice_get kept.told.items r ≡ Some run
+    → begin_of kept.told.items kept.count r ≤ i → i + more < begin_of kept.told.items kept.count (suc r) → (0 < more → x.erases ≤ number) → AreToldAlike x kept number i more run.of
+told_alike x kept number i more r run at is from below on j le = (by j le, there)
+  where
+    there : IsIn kept.told.items kept.count (i + j) run.of
+    there = record { run = r; first = run.first; there = is; from = omega (arith, from); below = omega (arith, below, le) }
+
+    by : (j : ℕ) → j ≤ more → index_in_parent x (number + j) ≡ kept.first + (i + j)
+    by zero le = let none : number + 0 ≡ number = omega arith in rw none (omega (arith, at))
+    by (suc j) le = omega (arith, index_on x number (suc j) (on (omega (arith, le))), at)
 
 -- What is told of the cuts of which something is kept.
 module _ {O : Type 0} (IsTold : List ℕ → O → Type 0) where

@@ -15,3 +15,4 @@ pub mod JudgedRows
 pub mod Rowing
 pub mod Walks
 mod LastCuts
+mod Lines

@@ -1,9 +1,9 @@
 -- A page, as its lines are written one after another.
 use Rattle.std.specs.{Prelude.{flat_map, Bool, true, false, ◌∷◌, ◌<◌, ◌≤◌}, Io.KnownBytes.{Appends}}
-use Rattle.std.proofs.Common.{◌≡◌, ℕ, suc, ◌+◌, List, [], ◌++◌, length, take, drop, Some, None, Option, refl, sym, ap, subst, ◌∙◌, append_assoc, append-nil, arith}
+use Rattle.std.proofs.Common.{◌≡◌, ℕ, suc, ◌+◌, List, [], ◌++◌, length, take, drop, Some, None, Option, refl, sym, ap, subst, ◌∙◌, append_assoc, append-nil, arith, inl, inr}
 use Rattle.std.proofs.{lemmas.List.{take_at, take-append-drop}, lemmas.List.Concat.{flat_map-append}, Math.Seq.{take-append-add}, KnownBytes.{Appends-trans}}
 use Rattle.mc_tree.specs.Tree.{last_key, After}
-use Rattle.mc_explore.specs.Pages.{Listing, IsLawful, TakesPage, ShownIsOut, ShownBegan, FindsBefore, page_at, page_text, last_line, row_line}
+use Rattle.mc_explore.specs.Pages.{Listing, IsLawful, TakesPage, ShownIsOut, ShownBegan, FindsBefore, RowBegan, WritesRow, page_at, page_text, last_line, row_line}
 use Rattle.mc_explore.proofs.PageRows.{AreSoFar, cursor_is, next_of, none_so_far, one_more, page_short, page_full, page_with, some_shown}
 use Rattle.mc_output.specs.Text.{AppendsPrefix}
 
@@ -110,6 +110,14 @@ module _ {S K R C : Type 0} {l : Listing S K R C} {laws : IsLawful l} {until : O
         ∙ ap (λ z. lines l p.some ++ (z ++ last)) next
         ∙ ap (λ z. lines l p.some ++ z) (append_assoc (row_line l row) others last) in
         record { of = of; out = prefix_of before after more page (lines l p.some) (row_line l row) (others ++ last) text p.out a }
+
+    -- The line of the next row was written, or a prefix of it, or nothing.
+    pub page_written : (new : S) (more : Option (List ℕ)) → WritesRow l until now true new after more → AreOut l laws until old limit before new k more
+    page_written new more (row, f, a) = page_on new more row f a
+
+    pub row_began : (more : Option (List ℕ)) → RowBegan l until now after more → ShownBegan l until old limit before more
+    row_began more (inl same) = subst (ShownBegan l until old limit before) (sym same) began_before
+    row_began more (inr (row, new, f, a)) = began_in_row new more row f a
 
     -- Where no further row is shown, the last line says so: it is out, or a prefix of it.
     module _ (new : S) (none : FindsBefore l until now None new) (out : Option (List ℕ)) where

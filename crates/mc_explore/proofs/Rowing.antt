@@ -1,9 +1,9 @@
 -- The next row, by how a tour stands with the last one, also where the outcomes of last cuts are kept.
 use Rattle.std.proofs.{Common.{add-one, ap, arith, length-append, subst, sym, ◌∙◌}}
-use Rattle.std.specs.Prelude.{Bool, IfSome, IsSomeAnd, List, None, Option, Some, [], false, is_some, option_map, length, refl, suc, true, zero, ℕ, ◌++◌, ◌+◌, ◌<◌, ◌∷◌, ◌≡◌, ◌≢◌, ◌≤◌}
-use Rattle.mc_boot.specs.{Outcome.{shown}}
-use Rattle.mc_explore.specs.{declared.ahead.RowsAhead.{RowsAhead}}
-use Rattle.mc_explore.specs.inner.Exploring.{AreBeyond, AreFresh, IsAtPhase, IsInStep, IsRowing, IsSpent, StandsFor, last_of, with_last}
+use Rattle.std.specs.Prelude.{Bool, IfSome, IsSomeAnd, List, None, Option, Some, [], false, is_some, option_map, length, refl, suc, true, zero, ℕ, ◌++◌, ◌+◌, ◌-◌, ◌<◌, ◌∷◌, ◌≡◌, ◌≢◌, ◌≤◌}
+use Rattle.mc_boot.specs.Plan.{PowerOn}
+use Rattle.mc_explore.specs.{Subject.{IsRowAt, Subject}, declared.ahead.RowsAhead.{RowsAhead}}
+use Rattle.mc_explore.specs.inner.Exploring.{AreAllowed, AreBeyond, AreCountedUp, AreFresh, FindsRow, IsAtPhase, IsCountedUp, IsInStep, IsRowing, IsSpent, IsTouring, IsWithin, Rowed, StandsFor, TakesCountedUp, last_of, one_taken, with_last}
 use Rattle.mc_tree.specs.{Tree.{After, IsNext, Position, landed}, facts.Order.{allowed-push, next_after, next_below}}
 use Rattle.mc_walk.specs.{TreeModel.{TreeModel}, Walks.{IsPath, Toured, Visits, Walked, position_of}}
 use Rattle.mc_walk.specs.{declared.tour.Phase.{Phase}, declared.tour.Phase.TheVariants.{Broken, Done, Fresh, Going}}
@@ -24,7 +24,7 @@ module _ {B N A T H E : Type 0} (model : B → TreeModel N A T) (holds : B → H
   -- Where no further path is, the position is after the last one.
 
   -- A row ahead is to come.
-  module _ (t : Toured B) (kept : H) (path : List ℕ) (x : RowsAhead E) (inv : IsRowing model holds is_ahead t kept path (Some x)) (lt : x.next < x.count) where
+  module _ (t : Toured B) (kept : H) (path : List ℕ) (x : RowsAhead E) (inv : IsTouring model holds is_ahead t kept path (Some x)) (lt : x.next < x.count) where
     works : t.phase ≢ Broken
     works is = omega (arith, inv.spent is, lt)
 
@@ -73,6 +73,28 @@ module _ {B N A T H E : Type 0} (model : B → TreeModel N A T) (holds : B → H
     pub going_there : t.phase ≡ Going
     going_there = going
 
+    -- It is taken.
+    pub touring_taken : (near counted_up : ℕ) → IsTouring model holds is_ahead t kept path (Some (one_taken x near counted_up))
+    touring_taken near counted_up =
+        let taken : RowsAhead E = one_taken x near counted_up in
+        let b = ahead_there in
+        let beyond : AreBeyond model is_ahead t.walk kept path taken =
+        record { deep = b.deep; listed = b.listed; are = b.are; count_is = b.count_is; some = b.some; small = b.small } in
+        record {
+          spent = λ is. absurd (works is);
+          sound = λ _. record {
+            at_most = step.at_most;
+            holds_there = step.holds_there;
+            stands = subst (IsAtPhase model holds is_ahead t.walk kept path (Some taken)) (sym going) (there.0, beyond);
+          };
+        }
+
+    -- All children are there.
+    pub all_allowed : AreAllowed (model t.walk.flash_tree) path x.count
+    all_allowed i lt =
+        let k = model t.walk.flash_tree in
+        allowed-push k.tree k.root path i ahead_there.listed.1 (omega (arith, lt, ahead_there.count_is))
+
   -- A walk stands at that path, and these rows are ahead; and what was kept goes over.
   pub record HasArrived (w : Walked B) (kept kept' : H) (path' : List ℕ) (ahead' : Option (RowsAhead E)) : Type 0 where
     pub path_is : path' ≡ w.path
@@ -80,7 +102,7 @@ module _ {B N A T H E : Type 0} (model : B → TreeModel N A T) (holds : B → H
     pub are : IfSome ahead' (AreFresh model holds is_ahead w kept' path')
 
   -- No row ahead is to come.
-  module _ (t : Toured B) (kept : H) (path : List ℕ) (ahead : Option (RowsAhead E)) (inv : IsRowing model holds is_ahead t kept path ahead) (spent : IfSome ahead IsSpent)
+  module _ (t : Toured B) (kept : H) (path : List ℕ) (ahead : Option (RowsAhead E)) (inv : IsTouring model holds is_ahead t kept path ahead) (spent : IfSome ahead IsSpent)
       (works : t.phase ≢ Broken) where
     abbrev here : Position (List ℕ)
     here = position_of t.phase (last_of path ahead)
@@ -137,10 +159,111 @@ module _ {B N A T H E : Type 0} (model : B → TreeModel N A T) (holds : B → H
         pub path_next : IsNext (IsPath (model t.walk.flash_tree) t.walk) here (last_of path' ahead')
         path_next = subst (IsNext (IsPath (model t.walk.flash_tree) t.walk) here) (sym last_next) v.0
 
-        pub rowing_next : IsRowing model holds is_ahead new kept' path' ahead'
+        pub rowing_next : IsTouring model holds is_ahead new kept' path' ahead'
         rowing_next = grind arith
 
     -- Or there is none.
     module _ (new : Toured B) (v : Visits (model t.walk.flash_tree) t here false new) where
-      pub rowing_over : IsRowing model holds is_ahead new kept path ahead
+      pub rowing_over : IsTouring model holds is_ahead new kept path ahead
       rowing_over = grind arith
+
+-- Rows that are the last one with its last cut counted up.
+module _ {B C K R U N A T H E : Type 0} (x : Subject C K R U) (model : B → TreeModel N A T) (begins : B → PowerOn) (choice : B → C) (key_of : B → List ℕ → K) (up : ℕ → R → R)
+    (holds : B → H → Type 0) (is_ahead : B → H → List ℕ → E → ℕ → Type 0) (up_more : (row : R) (j : ℕ) → up (j + 1) (up 1 row) ≡ up (j + 2) row)
+    (t : Toured B) (kept : H) (path : List ℕ) (a : RowsAhead E) (row : R) (inv : IsRowing x model begins choice key_of up holds is_ahead t kept path (Some a) (Some row))
+    (some : 1 ≤ a.counted_up) where
+  abbrev taken : RowsAhead E
+  taken = one_taken a a.near (a.counted_up - 1)
+
+  left : a.next < a.count
+  left = omega (arith, inv.within, some)
+
+  working : t.phase ≢ Broken
+  working is = omega (arith, inv.touring.spent is, left)
+
+  abbrev At : List ℕ → R → Type 0
+  At l r = IsRowAt x begins choice key_of t.walk.flash_tree l r
+
+  pub rowing_counted : IsRowing x model begins choice key_of up holds is_ahead t kept path (Some taken) (Some (up 1 row))
+  rowing_counted = record {
+    touring = touring_taken model holds is_ahead t kept path a inv.touring left a.near (a.counted_up - 1);
+    within = omega (arith, inv.within, some);
+    counted = λ works j lt.
+        let there = inv.counted works (j + 1) (omega (arith, lt)) in
+        let number : a.next + (j + 1) ≡ a.next + 1 + j = omega arith in
+        let two : j + 1 + 1 ≡ j + 2 = omega arith in
+        subst (At (path ++ (a.next + 1 + j) ∷ [])) (ap (λ n. up n row) two ∙ sym (up_more row j)) (subst (λ n. At (path ++ n ∷ []) (up (j + 1 + 1) row)) number there);
+  }
+
+  pub finds_counted : {W : Type 0} (was is : Option W) → FindsRow x model begins choice key_of (record { walk = t.walk; phase = t.phase; last = with_last path a.next; row = was }) (Some (up 1 row))
+      (record { walk = t.walk; phase = t.phase; last = with_last path (a.next + 1); row = is })
+  finds_counted was is =
+      let there = inv.counted working 0 (omega (arith, some)) in
+      let number : a.next + 0 ≡ a.next = omega arith in
+      let one : 0 + 1 ≡ 1 = omega arith in
+      let last = last_there model holds is_ahead t kept path a inv.touring left in (
+        next_ahead model holds is_ahead t kept path a inv.touring left,
+        subst (λ l. At l (up 1 row)) (sym last) (subst (λ n. At (path ++ a.next ∷ []) (up n row)) one (subst (λ n. At (path ++ n ∷ []) (up (0 + 1) row)) number there)),
+        record { flash_tree = refl; bound = refl },
+        going_there model holds is_ahead t kept path a inv.touring left,
+      )
+
+-- One of them is taken, where there is one.
+module _ {B C K R U N A T H E : Type 0} (x : Subject C K R U) (model : B → TreeModel N A T) (begins : B → PowerOn) (choice : B → C) (key_of : B → List ℕ → K) (up : ℕ → R → R)
+    (holds : B → H → Type 0) (is_ahead : B → H → List ℕ → E → ℕ → Type 0) (up_more : (row : R) (j : ℕ) → up (j + 1) (up 1 row) ≡ up (j + 2) row)
+    (t : Toured B) (kept : H) (path : List ℕ) (ahead ahead' : Option (RowsAhead E)) (row row' : Option R)
+    (inv : IsRowing x model begins choice key_of up holds is_ahead t kept path ahead row) (takes : TakesCountedUp ahead ahead') (counted : IsCountedUp x up row row') where
+  inv_of : IsRowing x model begins choice key_of up holds is_ahead t kept path (Some takes.0) (Some counted.before)
+  inv_of =
+      let P = IsRowing x model begins choice key_of up holds is_ahead t kept path in
+      subst (λ r. P (Some takes.0) r) counted.was (subst (λ a. P a row) takes.1 inv)
+
+  pub rowing_taken : IsRowing x model begins choice key_of up holds is_ahead t kept path ahead' row'
+  rowing_taken =
+      let P = IsRowing x model begins choice key_of up holds is_ahead t kept path in
+      subst (λ r. P ahead' r) (sym counted.is)
+      (subst (λ a. P a (Some (up 1 counted.before))) (sym takes.3)
+      (rowing_counted x model begins choice key_of up holds is_ahead up_more t kept path takes.0 counted.before inv_of takes.2))
+
+  pub works_taken : t.phase ≢ Broken
+  works_taken = working x model begins choice key_of up holds is_ahead up_more t kept path takes.0 counted.before inv_of takes.2
+
+  pub finds_taken : {W : Type 0} (was is : Option W) → FindsRow x model begins choice key_of (record { walk = t.walk; phase = t.phase; last = last_of path ahead; row = was }) row'
+      (record { walk = t.walk; phase = t.phase; last = last_of path ahead'; row = is })
+  finds_taken {W} was is =
+      let old : Option (RowsAhead E) → Rowed B W = λ a. record { walk = t.walk; phase = t.phase; last = last_of path a; row = was } in
+      let new : Option (RowsAhead E) → Rowed B W = λ a. record { walk = t.walk; phase = t.phase; last = last_of path a; row = is } in
+      let F = FindsRow x model begins choice key_of in
+      subst (λ r. F (old ahead) r (new ahead')) (sym counted.is)
+      (subst (λ a. F (old a) (Some (up 1 counted.before)) (new ahead')) (sym takes.1)
+      (subst (λ a. F (old (Some takes.0)) (Some (up 1 counted.before)) (new a)) (sym takes.3)
+      (finds_counted x model begins choice key_of up holds is_ahead up_more t kept path takes.0 counted.before inv_of takes.2 was is)))
+
+-- Where no row ahead is known to be the last one with its last cut counted up.
+module _ {B C K R U N A T H E : Type 0} (x : Subject C K R U) (model : B → TreeModel N A T) (begins : B → PowerOn) (choice : B → C) (key_of : B → List ℕ → K) (up : ℕ → R → R)
+    (holds : B → H → Type 0) (is_ahead : B → H → List ℕ → E → ℕ → Type 0) (t : Toured B) (kept : H) (path : List ℕ) (ahead : Option (RowsAhead E)) where
+  -- After a row that was come to.
+  pub rowing_arrived : (row : Option R) → IsTouring model holds is_ahead t kept path ahead → IfSome ahead (AreFresh model holds is_ahead t.walk kept path)
+      → IsRowing x model begins choice key_of up holds is_ahead t kept path ahead row
+  rowing_arrived row touring fresh = record { touring = touring; within = within ahead fresh; counted = λ works. counted ahead row fresh }
+    where
+      within : (o : Option (RowsAhead E)) → IfSome o (AreFresh model holds is_ahead t.walk kept path) → IfSome o IsWithin
+      within None fresh = tt
+      within (Some a) fresh = omega (arith, fresh.fresh, fresh.none)
+
+      counted : (o : Option (RowsAhead E)) (row : Option R) → IfSome o (AreFresh model holds is_ahead t.walk kept path)
+          → IfSome o (λ a. IfSome row (λ r. AreCountedUp x begins choice key_of up t.walk.flash_tree path r a))
+      counted None row fresh = tt
+      counted (Some a) None fresh = tt
+      counted (Some a) (Some r) fresh = λ j lt. absurd (omega (arith, lt, fresh.none))
+
+  -- Where there is no row.
+  abbrev no_row : Option R
+  no_row = None
+
+  pub rowing_none : IsTouring model holds is_ahead t kept path ahead → IfSome ahead IsWithin → IsRowing x model begins choice key_of up holds is_ahead t kept path ahead None
+  rowing_none touring within = record { touring = touring; within = within; counted = λ works. none ahead }
+    where
+      none : (o : Option (RowsAhead E)) → IfSome o (λ a. IfSome no_row (λ r. AreCountedUp x begins choice key_of up t.walk.flash_tree path r a))
+      none None = tt
+      none (Some a) = tt

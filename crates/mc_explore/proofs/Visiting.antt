@@ -7,8 +7,20 @@ use Rattle.mc_walk.specs.{TreeModel.{TreeModel}, Walks.{position_of, Walked, IsS
 use Rattle.mc_walk.specs.declared.tour.Phase.TheVariants as phases
 use Rattle.mc_boot.specs.Plan.{PowerOn}
 use Rattle.mc_explore.specs.inner.Exploring.{AreKeys, FindsRow, IsBeyond, IsSound, Rowed, state_of}
+use Rattle.mc_explore.specs.Pages as listings
 use Rattle.mc_explore.specs.Subject as states
 use Rattle.mc_explore.specs.Subject.{Finds, moved_to, Subject, IsRowAt}
+
+-- The next row is the first of those to come, and there is none where none is to come.
+first_there : {C K R U : Type 0} (x : Subject C K R U) (state : states.State C K) (row : R) → Finds x state (Some row) → listings.IsFirst (states.rows_of x) state row
+first_there x state row (next, outcome) = record {
+  is_row = record { listed = next.listed; outcome = outcome };
+  past = next.past;
+  none_between = λ m is past before. next.none_between (x.key m) is.listed past before;
+}
+
+none_there : {C K R U : Type 0} (x : Subject C K R U) (state : states.State C K) → Finds x state None → listings.FindsRow (states.rows_of x) state None
+none_there x state over m is past = over (x.key m) is.listed past
 
 module _ {B C K R U N A T : Type 0} (x : Subject C K R U) (model : B → TreeModel N A T) (begins : B → PowerOn) (choice : B → C) (key_of : B → List ℕ → K)
     (keys : (b : B) → AreKeys x (model b).tree (model b).root (begins b) (choice b) (key_of b)) where
@@ -57,14 +69,14 @@ module _ {B C K R U N A T : Type 0} (x : Subject C K R U) (model : B → TreeMod
   -- ---- what is found
 
   -- The rows of a sound explorer found the next one, or there is none; and what they count then.
-  pub record Found (counted : Bool) (start : PowerOn) (chosen : C) (bound : ℕ) (old new : Rowed B) (last : K) (found : Option R) : Type 0 where
+  pub record Found {W : Type 0} (counted : Bool) (start : PowerOn) (chosen : C) (bound : ℕ) (old new : Rowed B W) (last : K) (found : Option R) : Type 0 where
     pub works : old.phase ≢ phases.Broken
     pub sound : IsSound model begins choice key_of counted start chosen bound old last
     pub finds : FindsRow x model begins choice key_of old found new
     pub limits : new.walk.seen.usage.limits ≡ old.walk.seen.usage.limits
     pub failed : new.walk.seen.usage.failed ≡ old.walk.seen.usage.failed
 
-  module _ (counted : Bool) (start : PowerOn) (chosen : C) (bound : ℕ) (old new : Rowed B) (last : K) where
+  module _ {W : Type 0} (counted : Bool) (start : PowerOn) (chosen : C) (bound : ℕ) (old new : Rowed B W) (last : K) where
     abbrev w : Walked B
     w = old.walk
 
@@ -84,6 +96,9 @@ module _ {B C K R U N A T : Type 0} (x : Subject C K R U) (model : B → TreeMod
           λ z. IsNextIn x.Before (x.IsListed (begins w.flash_tree) (choice w.flash_tree) w.bound) (position_of old.phase (key_of w.flash_tree old.last)) z in
           (subst P beyond.key_is (subst Q (sym f.finds.1.0) n), f.finds.1.1)
 
+      pub first_row : listings.IsFirst (states.rows_of x) (state_of begins choice w here) row
+      first_row = first_there x (state_of begins choice w here) row next_there
+
       module _ (k : K) (is : k ≡ x.key row) where
         pub moved_on : state_of begins choice new.walk (position_of new.phase k) ≡ moved_to (state_of begins choice w here) (x.key row)
         moved_on = grind arith
@@ -98,6 +113,9 @@ module _ {B C K R U N A T : Type 0} (x : Subject C K R U) (model : B → TreeMod
 
       pub finds_none : states.IsOver x (state_of begins choice w here)
       finds_none = grind (arith, over_key)
+
+      pub no_row : listings.FindsRow (states.rows_of x) (state_of begins choice w here) None
+      no_row = none_there x (state_of begins choice w here) finds_none
 
       pub stays_so : state_of begins choice new.walk (position_of new.phase last) ≡ state_of begins choice w here
       stays_so = grind arith

@@ -1,6 +1,6 @@
 -- What is gone through row by row, of whatever kind.
 use Rattle.std.specs.Io.KnownBytes.{Appends}
-use Rattle.std.specs.Prelude.{All, List, None, Option, Some, [], codes, drop, flat_map, if◌then◌else◌, length, nat_le, suc, take, zero, ℕ, ◌++◌, ◌∷◌, ◌≡◌, ◌⊎◌}
+use Rattle.std.specs.Prelude.{All, Bool, List, None, Option, Some, [], codes, drop, false, flat_map, if◌then◌else◌, length, nat_le, suc, take, true, zero, ℕ, ◌++◌, ◌∷◌, ◌≡◌, ◌⊎◌}
 use Rattle.mc_output.specs.Text.{AppendsPrefix}
 use Rattle.mc_tree.specs.{Tree.{After, IsPastIn, Position, last_key}, facts.Order.{IsOrder}}
 use Rattle.mc_tree.specs.Tree as lists
@@ -148,3 +148,13 @@ module _ {S K R C : Type 0} (l : Listing S K R C) where
   FindsBefore until old None new =
       (FindsRow l old None × (new ≡ old))
       ⊎ ((row : R) × FindsRow l old (Some row) × (IsBefore until (l.key row) → ⊥) × (new ≡ l.moved_to old (l.key row)))
+
+  -- Its line is out; or there is none, and nothing is out.
+  abbrev pub WritesRow : Option K → S → Bool → S → Option (List ℕ) → Option (List ℕ) → Type 0
+  WritesRow until old true new before after = (row : R) × FindsBefore until old (Some row) new × Appends before after (row_line row)
+  WritesRow until old false new before after = FindsBefore until old None new × (after ≡ before)
+
+  -- A prefix of its line is out, or nothing.
+  abbrev pub RowBegan : Option K → S → Option (List ℕ) → Option (List ℕ) → Type 0
+  RowBegan until old before after =
+      (after ≡ before) ⊎ ((row : R) × (new : S) × FindsBefore until old (Some row) new × AppendsPrefix before after (row_line row))

@@ -6,3 +6,4 @@ pub mod Runs
 pub mod Table
 pub mod View
 pub mod Exploring
+pub mod Lines

@@ -11,8 +11,10 @@ pub struct RowsAhead<A> {
     pub count: u32,
     /// The next child.
     pub next: u32,
-    /// Where the row of the child before was found, which is the first place to look at.
+    /// Where the row of the next child is looked for first.
     pub near: usize,
+    /// How many of the next rows are the one before with its last cut counted up.
+    pub counted_up: u32,
 }
 
 /// Those where one is still to come.

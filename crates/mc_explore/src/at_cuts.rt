@@ -1,10 +1,10 @@
 //! What was told at the cuts of one boot.
 ghost use Rattle.std.specs.Prelude.{◌≡◌, ℕ, ◌+◌, ◌<◌, ◌≤◌, ◌^◌, ◌⊎◌, length, None, IfOk, IfSome, IsSomeAnd, true};
 ghost use Rattle.mc_boot.specs.SharedTail.{index_in_parent};
-ghost use Rattle.mc_explore.specs.inner.LastCuts.{IsIndexOf, IsNothing, IsOneRunMore};
-ghost use Rattle.mc_explore.specs.inner.Runs.{IsIn, IsSplit};
+ghost use Rattle.mc_explore.specs.inner.LastCuts.{AreToldAlike, IsIndexOf, IsNothing, IsOneRunMore};
+ghost use Rattle.mc_explore.specs.inner.Runs.{IsSplit};
 
-use crate::run::{Run, run_near};
+use crate::run::{Run, begin_at, run_near};
 use mc_boot::SharedTail;
 use mc_flash::most_operations;
 use mc_start::{Schedule, Start};
@@ -72,19 +72,25 @@ impl<O: Copy> AtCuts<O> {
         AtCuts::new(alloc, most.saturating_mul(boots) as usize)
     }
 
-    /// What was told at the cut of its boot where that of the other boot finds its flash, if it is kept. It is looked for first in the
-    /// run where the last one was found, and that run is kept in `near`.
+    /// What was told at the cut of its boot where that of the other boot finds its flash, if it is kept; and of how many of the cuts
+    /// after it the same was told, as far as it is known. It is looked for first in the run `near`, which is then the one to look in
+    /// for the cut after these.
     #[inline]
-    pub fn find(&self, shared_tail: &SharedTail, number: u32, near: &mut usize) -> Option<&O>
+    pub fn find(&self, shared_tail: &SharedTail, number: u32, near: &mut usize) -> Option<(O, u32)>
         requires { number < 2 ^ 31 }
         ensures { (i : ℕ) → index_in_parent shared_tail.now number ≡ self.now.first + i
-            → IsSplit self.now.told.items self.now.count → i < self.now.count
-            → IsSomeAnd result (λ o. IsIn self.now.told.items self.now.count i o.now) }
+            → IsSplit self.now.told.items self.now.count → i < self.now.count → IsSomeAnd result
+            (λ found. AreToldAlike shared_tail.now self.now number i found.1 found.0) }
     {
         let index = shared_tail.index_in_parent(number).checked_sub(self.first)?;
         *near = run_near(&self.told, self.count, index, *near);
         let run = self.told.get(*near)?;
-        Some(&run.of)
+        if number < shared_tail.erases() {
+            return Some((run.of, 0));
+        }
+        *near += 1;
+        let end = begin_at(&self.told, self.count, *near);
+        Some((run.of, end.saturating_sub(index).saturating_sub(1)))
     }
 
     /// Whether all is kept that was told at those cuts of its boot, with so many operations, to which another boot leads.

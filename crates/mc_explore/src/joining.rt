@@ -101,7 +101,7 @@ fn find_last_cuts<F: Flash, X: Joining>(
     ensures cuts { let b = walk.now.flash_tree in IfSome result
         (λ rows. AreLastCuts (X.model b) (X.IsLike b) (X.IsTold b) path.now kept.new rows.ahead
         rows.count) }
-    ensures fresh { IfSome result (λ rows. rows.next ≡ 0) }
+    ensures fresh { IfSome result (λ rows. (rows.next ≡ 0) × (rows.counted_up ≡ 0)) }
 {
     kept.joined = None;
     let step = walk.last_step()?;
@@ -124,6 +124,7 @@ fn find_last_cuts<F: Flash, X: Joining>(
         count,
         next: 0,
         near: 0,
+        counted_up: 0,
     })
 }
 
@@ -186,7 +187,7 @@ pub fn tell<F: Flash, X: Joining>(
         (λ rows. AreLastCuts (X.model b) (X.IsLike b) (X.IsTold b) path.now kept.new rows.ahead
         rows.count) }
     ensures deep { IfSome result (λ rows. length path.now + 1 ≡ walk.now.bound) }
-    ensures fresh { IfSome result (λ rows. rows.next ≡ 0) }
+    ensures fresh { IfSome result (λ rows. (rows.next ≡ 0) × (rows.counted_up ≡ 0)) }
 {
     let path = path.cuts();
     if path.len() == walk.bound() {

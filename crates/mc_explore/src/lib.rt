@@ -18,6 +18,7 @@ mod pages;
 mod replays;
 mod rights;
 mod row;
+mod row_line;
 mod row_text;
 mod rows;
 mod run;

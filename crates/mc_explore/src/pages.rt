@@ -12,7 +12,7 @@ use crate::explorer::Explorer;
 use crate::output::write_text;
 use crate::source::RowSource;
 use mc_flash::Flash;
-use mc_start::{Line, Schedule};
+use mc_start::Schedule;
 use std::io::Write;
 
 // Writes a page, and leaves it to the caller to make the source fail where that fails.
@@ -37,12 +37,10 @@ fn write_lines<S: RowSource, W: Write>(
         × IfErr result (λ e. (e ≡ ExploreError.Memory) ⊎ (e ≡ ExploreError.Failed)
         ⊎ (e ≡ ExploreError.Write)) }
 {
-    let mut line = Line::new();
     let mut room = limit;
     'fill: while room > 0 {
-        match source.next_before(until)? {
-            Some(row) => source.write_row(&row, &mut line, writer)?,
-            None => return write_text(writer, b"end\n"),
+        if !source.write_next_row(until, writer)? {
+            return write_text(writer, b"end\n");
         }
         room -= 1;
     }

@@ -2,6 +2,7 @@
 ghost use Rattle.std.specs.Prelude.{◌≡◌, ◌+◌, ◌<◌, ◌≤◌, ◌++◌, [], length, Some, option_map};
 ghost use Rattle.mc_boot.specs.Plan.{identity_of};
 ghost use Rattle.mc_boot.specs.Outcome.{shown};
+ghost use Rattle.mc_start.specs.Start.{schedule_text};
 ghost use Rattle.mc_explore.specs.Rows.{slot_text, outcome_text, slots_text, row_text, shown_row};
 
 use crate::labels::Labels;
@@ -70,22 +71,25 @@ impl fmt::Display for Row {
 
     fn fmt<W: fmt::Write>(&self, f: &mut fmt::Formatter<W>) -> fmt::Result {
         let mut line = Line::new();
-        self.put_into(&mut line, &Labels::none());
+        let _key = self.put_into(&mut line, &Labels::none());
         f.write_str(line.as_str())
     }
 }
 
 impl Row {
-    // Puts its text into an empty line, where there is room for it and more.
-    pub(crate) fn put_into(&self, line: &mut Line, labels: &Labels)
+    // Puts its text into an empty line, where there is room for it and more. How many bytes of it are those of the schedule.
+    pub(crate) fn put_into(&self, line: &mut Line, labels: &Labels) -> usize
         requires { line.old ≡ [] }
+        ensures key { result ≡ length (schedule_text (shown_row self.now).schedule) }
         ensures text { line.new ≡ row_text (shown_row self.now) }
         ensures length { length line.new < MOST_LINE }
     {
         self.schedule.put_into(line);
+        let key = line.as_str().len();
         line.put(" ");
         put_outcome(line, &self.outcome);
         line.put(" ");
         put_slots(line, &self.outcome, labels);
+        key
     }
 }

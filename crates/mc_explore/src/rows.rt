@@ -1,8 +1,8 @@
 //! The rows of an exploration, one after another.
-ghost use Rattle.std.specs.Prelude.{◌≡◌, ℕ, List, ◌≤◌, [], true, option_map, IfOk};
+ghost use Rattle.std.specs.Prelude.{◌≡◌, ℕ, List, ◌≤◌, [], false, true, option_map, None, Ok, IfOk, IfSome, OnOk};
 ghost use Rattle.mc_tree.specs.Tree.{Position};
 ghost use Rattle.mc_walk.specs.Walks.{Costs, Visits, IsFresh};
-ghost use Rattle.mc_explore.specs.inner.Exploring.{CostsRow, FindsRow, StandsFor};
+ghost use Rattle.mc_explore.specs.inner.Exploring.{CostsRow, FindsRow, IsCountedUp, IsWithin, StandsFor, TakesCountedUp};
 
 use crate::ahead::{RowsAhead, still_to_come};
 use crate::subject::Subject;
@@ -18,23 +18,55 @@ pub struct Rows<F: Flash, X: Subject> {
     // The path at which the tour stands.
     path: Schedule,
     kept: X::Kept,
+    // The last row, where there was one.
+    row: Option<X::Row>,
     // The rows after that path, where they are found without the flash.
     ahead: Option<RowsAhead<X::Ahead>>,
 }
 
 impl<F: Flash, X: Subject> Model for Rows<F, X> {
+    ghost use Rattle.std.specs.Prelude.{option_map};
     ghost use Rattle.mc_explore.specs.inner.Exploring.{last_of, IsRowing, Rowed};
 
-    ghost Value = { Rowed X };
+    ghost Value = { Rowed X X.Row };
 
     ghost view = { λ rows. record {
       walk = rows.tour.walk;
       phase = rows.tour.phase;
       last = last_of rows.path rows.ahead;
+      row = rows.row;
     } };
 
-    ghost invariant = { λ rows. IsRowing X.model X.holds X.is_ahead rows.tour rows.kept rows.path
-        rows.ahead };
+    ghost invariant = { λ rows. IsRowing X.subject X.model X.begins X.choice X.key_of X.up X.holds
+        X.is_ahead rows.tour rows.kept rows.path rows.ahead (option_map X.shown rows.row) };
+}
+
+// Makes the last row the next one, where that is known to be the same with its last cut counted up.
+#[inline]
+fn count_up<X: Subject>(row: &mut Option<X::Row>, ahead: &mut Option<RowsAhead<X::Ahead>>) -> bool
+    requires { IfSome ahead.old IsWithin }
+    ensures next { result ≡ true → TakesCountedUp ahead.old ahead.new }
+    ensures counted { result ≡ true → IsCountedUp X.subject X.up (option_map X.shown row.old)
+        (option_map X.shown row.new) }
+    ensures same { result ≡ false → (row.new ≡ row.old) × (ahead.new ≡ ahead.old) }
+{
+    let Some(rows) = ahead else {
+        return false;
+    };
+    // They are no more than there are.
+    let _count = rows.count;
+    if rows.counted_up == 0 {
+        return false;
+    }
+    let Some(row) = row else {
+        return false;
+    };
+    if !X::count_up(row) {
+        return false;
+    }
+    rows.counted_up -= 1;
+    rows.next += 1;
+    true
 }
 
 // Goes on to the next node: from where a tour stands, or after all children of that node.
@@ -60,13 +92,14 @@ impl<F: Flash + Drop, X: Subject> Rows<F, X> {
         requires fresh { IsFresh (X.model walk.flash_tree) walk }
         requires at_most { walk.bound ≤ 16 }
         requires kept { X.holds walk.flash_tree kept }
-        ensures { result ≡ record { walk = walk; phase = Phase.Fresh; last = [] } }
+        ensures { result ≡ record { walk = walk; phase = Phase.Fresh; last = []; row = None } }
     {
         let tour = Tour::fresh(walk);
         Rows {
             tour,
             path: Schedule::new(),
             kept,
+            row: None,
             ahead: None,
         }
     }
@@ -76,43 +109,83 @@ impl<F: Flash + Drop, X: Subject> Rows<F, X> {
         requires stands { walk.stands ≡ true }
         requires at_most { walk.bound ≤ 16 }
         requires kept { X.holds walk.flash_tree kept }
-        ensures { result ≡ record { walk = walk; phase = Phase.Going; last = walk.path } }
+        ensures { result ≡ record { walk = walk; phase = Phase.Going; last = walk.path; row = None } }
     {
         let path = Schedule::of(walk.path().as_slice());
         Rows {
             tour: Tour::after(walk),
             path,
             kept,
+            row: None,
             ahead: None,
         }
     }
 
-    /// The next row, if there is one.
-    ///
-    /// # Errors
-    ///
-    /// `Memory` where the flash was refused memory; from then on always `Failed`.
-    #[inline(always)]
-    pub fn next(&mut self) -> Result<Option<X::Row>, TourError>
-        ensures finds { IfOk result (λ found. FindsRow X.subject X.model X.begins X.choice X.key_of
-            self.old (option_map X.shown found) self.new) }
+    // Goes on to the next row where that is known to be the last one with its last cut counted up.
+    #[inline]
+    fn count_up(&mut self) -> bool
+        ensures finds { result ≡ true → FindsRow X.subject X.model X.begins X.choice X.key_of
+            self.old (option_map X.shown self.new.row) self.new }
+        ensures counted { result ≡ true → IsCountedUp X.subject X.up
+            (option_map X.shown self.old.row) (option_map X.shown self.new.row) }
+        ensures costs { result ≡ true → CostsRow X.model self.old (Ok true) self.new }
+        ensures same { result ≡ false → self.new ≡ self.old }
+    {
+        count_up::<X>(&mut self.row, &mut self.ahead)
+    }
+
+    // Goes on to the next row, if there is one.
+    fn go_on(&mut self) -> Result<(), TourError>
+        ensures finds { OnOk result (FindsRow X.subject X.model X.begins X.choice X.key_of
+            self.old (option_map X.shown self.new.row) self.new) }
         ensures costs { CostsRow X.model self.old result self.new }
     {
         if let Some(mut rows) = still_to_come(self.ahead) {
             let flash_tree = self.tour.walk().flash_tree();
             let row = flash_tree.row_ahead(&self.kept, &self.path, &mut rows);
             self.ahead = Some(rows);
-            return Ok(row);
+            self.row = row;
+            return Ok(());
         }
         if !next_node(&mut self.tour, self.ahead.is_some())? {
-            return Ok(None);
+            self.row = None;
+            return Ok(());
         }
         let walk = self.tour.walk();
         let path = Schedule::of(walk.path().as_slice());
         let row = X::row(walk, &path);
         self.ahead = X::arrive(&mut self.kept, walk, &path);
         self.path = path;
-        Ok(Some(row))
+        self.row = Some(row);
+        Ok(())
+    }
+
+    /// Goes on to the next row, if there is one. Whether that is known to be the last one with its last cut counted up.
+    ///
+    /// # Errors
+    ///
+    /// `Memory` where the flash was refused memory; from then on always `Failed`.
+    #[inline(always)]
+    pub fn next(&mut self) -> Result<bool, TourError>
+        ensures finds { OnOk result (FindsRow X.subject X.model X.begins X.choice X.key_of
+            self.old (option_map X.shown self.new.row) self.new) }
+        ensures counted { IfOk result (λ is. is ≡ true → IsCountedUp X.subject X.up
+            (option_map X.shown self.old.row) (option_map X.shown self.new.row)) }
+        ensures costs { CostsRow X.model self.old result self.new }
+    {
+        if self.count_up() {
+            return Ok(true);
+        }
+        self.go_on()?;
+        Ok(false)
+    }
+
+    /// The row at which it stands, if there is one.
+    #[inline]
+    pub fn row(&self) -> Option<&X::Row>
+        ensures { option_map (λ row. row.now) result ≡ self.now.row }
+    {
+        self.row.as_ref()
     }
 
     /// The tree.
@@ -135,6 +208,7 @@ impl<F: Flash + Drop, X: Subject> Rows<F, X> {
           walk = self.old.walk;
           phase = Phase.Broken;
           last = self.new.last;
+          row = self.old.row;
         } }
     {
         self.ahead = None;

@@ -19,13 +19,14 @@ impl Subject for OneRound<'_> {
     ghost use Rattle.mc_boot.specs.Plan.{PowerOn};
     ghost use Rattle.mc_tree.specs.Tree.{Precedes};
     ghost use Rattle.mc_start.specs.Cursor.{cursor_of};
-    ghost use Rattle.mc_start.specs.Start.{start_digest};
+    ghost use Rattle.mc_start.specs.Start.{schedule_text, start_digest};
     ghost use Rattle.mc_tree.specs.facts.Order.{paths_in_order};
     ghost use Rattle.mc_explore.specs.inner.LastCuts.{AreKept, AreLastCuts, AreSame, HasOutcomeAt};
+    ghost use Rattle.mc_explore.specs.inner.Exploring.{AreNextTexts};
     ghost use Rattle.mc_explore.specs.inner.OneRound.{begins, one_round};
     ghost use Rattle.mc_explore.specs.Rows.{fields_of, subject};
     ghost use Rattle.mc_explore.specs.Rows as states;
-    ghost use Rattle.mc_explore.specs.facts.Keys.{are_schedules, one_more, schedule_costs, schedules_clear};
+    ghost use Rattle.mc_explore.specs.facts.Keys.{are_schedules, counted_up, one_more, row_up, schedule_costs, schedules_clear};
     ghost use Rattle.mc_explore.specs.facts.Listed.{some_rest};
 
     ghost Shown = { states.ShownRow };
@@ -59,6 +60,8 @@ impl Subject for OneRound<'_> {
 
     ghost is_ahead = { λ o kept path tail count. AreLastCuts (one_round (begins o)) (AreSame (begins o))
         (HasOutcomeAt (begins o)) path kept tail count };
+
+    ghost up = { counted_up };
 
     ghost more = { 1 };
 
@@ -112,13 +115,23 @@ impl Subject for OneRound<'_> {
     ) -> Option<Row> {
         let number = rows.next;
         rows.next += 1;
-        let outcome = kept.find(&rows.ahead, number, &mut rows.near)?;
+        rows.counted_up = 0;
+        let (outcome, alike) = kept.find(&rows.ahead, number, &mut rows.near)?;
+        rows.counted_up = alike.min(rows.count - rows.next);
         let mut schedule = *path;
         schedule.push(number);
-        Some(Row {
-            schedule,
-            outcome: *outcome,
-        })
+        Some(Row { schedule, outcome })
+    }
+
+    #[inline]
+    fn count_up(row: &mut Row) -> bool
+        ensures counted { result ≡ true → states.shown_row row.new
+            ≡ counted_up 1 (states.shown_row row.old) }
+        ensures text { result ≡ true → AreNextTexts subject (states.shown_row row.old)
+            (states.shown_row row.new) }
+        ensures same { result ≡ false → row.new ≡ row.old }
+    {
+        row.schedule.count_up()
     }
 
     #[inline]
@@ -171,12 +184,13 @@ impl Subject for OneRound<'_> {
         }
     }
 
-    fn put_row(row: &Row, line: &mut Line, labels: &Labels)
+    fn put_row(row: &Row, line: &mut Line, labels: &Labels) -> usize
         requires { line.old ≡ [] }
+        ensures key { result ≡ length (schedule_text (states.shown_row row.now).schedule) }
         ensures text { line.new ≡ subject.row_text (states.shown_row row.now) }
         ensures length { length line.new < 512 }
     {
-        row.put_into(line, labels);
+        row.put_into(line, labels)
     }
 
     fn put_key(key: &Schedule, line: &mut Line)
@@ -196,6 +210,8 @@ impl Subject for OneRound<'_> {
     }
 
     ghost are_keys = { λ o. are_schedules (begins o) };
+
+    ghost up_more = { row_up };
 
     ghost order = { paths_in_order };
 

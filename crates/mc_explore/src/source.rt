@@ -1,17 +1,16 @@
 //! What gives rows one after another.
 use crate::error::ExploreError;
-use mc_start::Line;
 use std::io::Write;
 
 /// Gives rows, one after another and each as a line, and says where to go on after the last: what pages are made of.
 pub trait RowSource {
-    ghost use Rattle.std.specs.Prelude.{◌≡◌, ℕ, Bool, Option, Some, ◌+◌, ◌≤◌, ◌⊎◌, IfOk, IfErr, OnOk, OnErr, option_map};
+    ghost use Rattle.std.specs.Prelude.{◌≡◌, ℕ, Bool, Option, Some, ◌+◌, ◌≤◌, ◌⊎◌, IfOk, IfErr, IsErrOf, OnOk, OnErr, option_map};
     ghost use Rattle.std.specs.Io.KnownBytes.{Appends};
     ghost use Rattle.mc_flash.specs.Usage.{Usage};
     ghost use Rattle.mc_output.specs.Text.{AppendsPrefix};
     ghost use Rattle.mc_tree.specs.Tree.{After, Lost};
-    ghost use Rattle.mc_explore.specs.Explores.{ExploresOn};
-    ghost use Rattle.mc_explore.specs.Pages.{Listing, IsLawful, FindsBefore, row_line, last_line};
+    ghost use Rattle.mc_explore.specs.Explores.{ExploresOn, LeavesExplorer};
+    ghost use Rattle.mc_explore.specs.Pages.{Listing, IsLawful, FindsBefore, RowBegan, WritesRow, last_line};
 
     ghost State: { Type 0 };
 
@@ -56,22 +55,28 @@ pub trait RowSource {
             self.old result self.new }
         ensures err { IfErr result (λ e. (e ≡ ExploreError.Memory) ⊎ (e ≡ ExploreError.Failed)) };
 
-    /// Writes the line of a row, or a prefix of it. It is put together in `line`, whatever that held.
+    /// Writes the line of the next row, where that comes before that one, if one is given; whether it does, and there is one.
     ///
     /// # Errors
     ///
-    /// `Write` where a write fails or takes no bytes.
-    fn write_row<W: Write>(
-        &self,
-        row: &Self::Row,
-        line: &mut Line,
+    /// `Memory` where the flash was refused memory; `Write` where a write fails or takes no bytes, and then a prefix of the line is out.
+    /// Once the explorer has failed, `Failed`.
+    fn write_next_row<W: Write>(
+        &mut self,
+        until: &Self::Until,
         writer: &mut W,
-    ) -> Result<(), ExploreError>
-        ensures whole { OnOk result (Appends (W.contents writer.old) (W.contents writer.new)
-            (row_line listing (shown row.now))) }
-        ensures prefix { OnErr result (AppendsPrefix (W.contents writer.old) (W.contents writer.new)
-            (row_line listing (shown row.now))) }
-        ensures err { IfErr result (λ e. e ≡ ExploreError.Write) };
+    ) -> Result<bool, ExploreError>
+        ensures writes { IfOk result (λ is. WritesRow listing (until_of until.now) (state self.old)
+            is (state self.new) (W.contents writer.old) (W.contents writer.new)) }
+        ensures began { OnErr result (RowBegan listing (until_of until.now) (state self.old)
+            (W.contents writer.old) (W.contents writer.new)) }
+        ensures applied { OnOk result ((usage self.new).applied
+            ≤ (usage self.old).applied + most_for_row (state self.old)) }
+        ensures goes { LeavesExplorer usage (λ e. listing.position (state e) ≡ Lost) counted
+            self.old result self.new }
+        ensures failed { (IsErrOf result ExploreError.Failed → writer.new ≡ writer.old)
+            × IfErr result (λ e. (e ≡ ExploreError.Memory) ⊎ (e ≡ ExploreError.Failed)
+            ⊎ (e ≡ ExploreError.Write)) };
 
     /// Writes the line that says where to go on after the last row, or a prefix of it.
     ///

@@ -21,7 +21,6 @@ pub struct Fields<C, K> {
 /// A kind of tree whose paths are gone through as rows, each found by a key.
 pub trait Subject: FlashTree {
     ghost use Rattle.std.specs.Prelude.{◌≡◌, ◌≢◌, ◌↔◌, ℕ, ◌+◌, ◌<◌, ◌≤◌, Bool, ◌^◌, List, [], ◌∷◌, length, ◌++◌, true, false, IfOk, IfSome, IsSomeAnd, OnOk};
-    ghost use Rattle.mc_tree.specs.Tree.{Allowed};
     ghost use Rattle.mc_tree.specs.facts.Order.{IsOrder};
     ghost use Rattle.mc_flash.specs.Geometry.{IsLayout};
     ghost use Rattle.mc_flash.specs.Usage.{Seen};
@@ -32,7 +31,7 @@ pub trait Subject: FlashTree {
     ghost use Rattle.mc_explore.specs.Pages.{IsRest};
     ghost use Rattle.mc_explore.specs.Subject as subjects;
     ghost use Rattle.mc_explore.specs.declared.subject.Fields.{Fields as FieldsOf};
-    ghost use Rattle.mc_explore.specs.inner.Exploring.{FollowsKey, NoAllocationFailed, IsCheapFor, AreKeys, LoadsFor, AreFresh, one_taken};
+    ghost use Rattle.mc_explore.specs.inner.Exploring.{FollowsKey, NoAllocationFailed, IsCheapFor, AreAllowed, AreCountedUp, AreKeys, AreNextTexts, LoadsFor, AreFresh, IsWithin, one_taken};
     ghost use Rattle.mc_explore.specs.Subject.{IsRowAt, rows_of, State};
 
     ghost Shown: { Type 0 };
@@ -70,6 +69,8 @@ pub trait Subject: FlashTree {
     ghost holds: { Self → Self.Kept → Type 0 };
 
     ghost is_ahead: { Self → Self.Kept → List ℕ → Self.Ahead → ℕ → Type 0 };
+
+    ghost up: { ℕ → Shown → Shown };
 
     ghost more: { ℕ };
 
@@ -134,7 +135,8 @@ pub trait Subject: FlashTree {
         ensures ahead { IfSome result (AreFresh Self.model holds is_ahead walk.now kept.new
             path.now) };
 
-    /// The next row of those, which is there wherever rows are found ahead; then one less is to come.
+    /// The next row of those, which is there wherever rows are found ahead; then one less is to come, and it is known how many of the
+    /// next ones are that row with its last cut counted up.
     fn row_ahead(
         self,
         kept: &Self::Kept,
@@ -146,10 +148,18 @@ pub trait Subject: FlashTree {
         requires small { rows.old.count ≤ 2 ^ 31 }
         ensures row { holds self kept.now
             → is_ahead self kept.now path.now rows.old.ahead rows.old.count
-            → Allowed (Self.model self).tree (Self.model self).root (path.now ++ rows.old.next ∷ [])
+            → AreAllowed (Self.model self) path.now rows.old.count
             → IsSomeAnd result (λ row. IsRowAt subject begins choice key_of self
-            (path.now ++ rows.old.next ∷ []) (shown row)) }
-        ensures next { rows.new ≡ one_taken rows.old rows.new.near };
+            (path.now ++ rows.old.next ∷ []) (shown row)
+            × AreCountedUp subject begins choice key_of up self path.now (shown row) rows.new) }
+        ensures next { rows.new ≡ one_taken rows.old rows.new.near rows.new.counted_up }
+        ensures within { IsWithin rows.new };
+
+    /// Counts the last cut of a row up by one, where it has one that is not the greatest number; says whether it has.
+    fn count_up(row: &mut Self::Row) -> bool
+        ensures counted { result ≡ true → shown row.new ≡ up 1 (shown row.old) }
+        ensures text { result ≡ true → AreNextTexts subject (shown row.old) (shown row.new) }
+        ensures same { result ≡ false → row.new ≡ row.old };
 
     /// The key of a row.
     fn key(row: &Self::Row) -> Self::Key
@@ -178,9 +188,10 @@ pub trait Subject: FlashTree {
             → says.digest ≡ start_digest start → result
             ≡ subject.cursor start says.choice says.bound says.key };
 
-    /// Puts the text of a row into an empty line, where there is room for it and more.
-    fn put_row(row: &Self::Row, line: &mut Line, labels: &Labels)
+    /// Puts the text of a row into an empty line, where there is room for it and more. How many bytes of it are those of its key.
+    fn put_row(row: &Self::Row, line: &mut Line, labels: &Labels) -> usize
         requires { line.old ≡ [] }
+        ensures key { result ≡ length (subject.key_text (subject.key (shown row.now))) }
         ensures text { line.new ≡ subject.row_text (shown row.now) }
         ensures length { length line.new < 512 };
 
@@ -198,6 +209,8 @@ pub trait Subject: FlashTree {
 
     ghost are_keys: { (b : Self) → AreKeys subject (Self.model b).tree (Self.model b).root
         (begins b) (choice b) (key_of b) };
+
+    ghost up_more: { (row : Shown) (j : ℕ) → up (j + 1) (up 1 row) ≡ up (j + 2) row };
 
     ghost order: { IsOrder subject.Before };
 

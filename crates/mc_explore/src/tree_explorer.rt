@@ -9,6 +9,7 @@ ghost use Rattle.mc_explore.specs.Subject.{Resumes, Explores, Finds, GoesOnBeyon
 use crate::error::ExploreError;
 use crate::labels::Labels;
 use crate::output::write_text;
+use crate::row_line::RowLine;
 use crate::rows::Rows;
 use crate::source::RowSource;
 use crate::subject::{Fields, OfStart, Subject};
@@ -32,10 +33,13 @@ pub struct TreeExplorer<'a, F: Flash, X: Subject> {
     // The key of the last row.
     last: X::Key,
     labels: Labels,
+    // The line of the last row, or nothing.
+    line: RowLine,
 }
 
 impl<'a, F: Flash, X: Subject> Model for TreeExplorer<'a, F, X> {
     ghost use Rattle.mc_start.specs.Start.{begun};
+    ghost use Rattle.mc_explore.specs.inner.Lines.{KeepsLine};
     ghost use Rattle.mc_explore.specs.inner.View.{IsDigestOf};
     ghost use Rattle.mc_walk.specs.Walks.{position_of};
     ghost use Rattle.mc_explore.specs.Subject.{Explored};
@@ -47,7 +51,8 @@ impl<'a, F: Flash, X: Subject> Model for TreeExplorer<'a, F, X> {
 
     ghost invariant = { λ e. IsSound X.model X.begins X.choice X.key_of F.counted
         (begun e.start.now) e.choice e.bound e.rows e.last
-        × IsDigestOf (begun e.start.now) e.digest };
+        × IsDigestOf (begun e.start.now) e.digest
+        × KeepsLine X.subject X.shown e.rows e.line.text.items e.line.key };
 }
 
 impl<'a, F: Flash + Drop, X: OfStart<'a>> TreeExplorer<'a, F, X> {
@@ -82,6 +87,7 @@ impl<'a, F: Flash + Drop, X: OfStart<'a>> TreeExplorer<'a, F, X> {
             rows: Rows::fresh(walk, kept),
             last: X::none(),
             labels: Labels::of(start),
+            line: RowLine::new(),
         })
     }
 
@@ -118,6 +124,7 @@ impl<'a, F: Flash + Drop, X: OfStart<'a>> TreeExplorer<'a, F, X> {
             rows: Rows::after(walk, kept),
             last: *key,
             labels: Labels::of(start),
+            line: RowLine::new(),
         })
     }
 
@@ -195,10 +202,12 @@ impl<'a, F: Flash + Drop, X: Subject> TreeExplorer<'a, F, X> {
         ensures err { IfErr result (λ e. (e ≡ ExploreError.Memory) ⊎ (e ≡ ExploreError.Failed)) }
     {
         self.rows.flash_tree().restarts();
-        let found = self.rows.next()?;
-        let Some(row) = found else {
+        let _counted_up = self.rows.next()?;
+        self.line.clear();
+        let Some(row) = self.rows.row() else {
             return Ok(None);
         };
+        let row = *row;
         self.last = X::key(&row);
         Ok(Some(row))
     }
@@ -271,17 +280,25 @@ impl<'a, F: Flash + Drop, X: Subject> RowSource for TreeExplorer<'a, F, X> {
         Ok(found)
     }
 
-    #[inline]
-    fn write_row<W: Write>(
-        &self,
-        row: &X::Row,
-        line: &mut Line,
+    #[inline(always)]
+    fn write_next_row<W: Write>(
+        &mut self,
+        until: &Option<X::Key>,
         writer: &mut W,
-    ) -> Result<(), ExploreError> {
-        line.clear();
-        X::put_row(row, line, &self.labels);
-        line.put("\n");
-        write_text(writer, line.as_str().as_bytes())
+    ) -> Result<bool, ExploreError> {
+        let counted_up = self.rows.next()?;
+        let Some(row) = self.rows.row() else {
+            self.line.clear();
+            return Ok(false);
+        };
+        self.last = X::key(row);
+        if !comes_before::<X>(row, until) {
+            self.line.clear();
+            return Ok(false);
+        }
+        self.line.turn_to::<X>(row, counted_up, &self.labels);
+        write_text(writer, self.line.text.as_slice())?;
+        Ok(true)
     }
 
     fn write_next<W: Write>(&self, writer: &mut W) -> Result<(), ExploreError> {

@@ -43,6 +43,16 @@ pub record FitsCut (before : List ℕ) (cut : ℕ) : Type 0 where
 abbrev pub IsAdded : List ℕ → List ℕ → List ℕ → Type 0
 IsAdded old text new = joining.IsAdded decimal FitsCut old text new
 
+-- A list with its last element changed.
+abbrev pub on_last : {A : Type 0} → (A → A) → List A → List A
+on_last change [] = []
+on_last change (x ∷ []) = change x ∷ []
+on_last change (x ∷ y ∷ xs) = x ∷ on_last change (y ∷ xs)
+
+-- Where a text ends with a digit below 9, the other ends with the next digit, and is the same before it.
+abbrev pub IsNextText : List ℕ → List ℕ → Type 0
+IsNextText text next = (front : List ℕ) (digit : ℕ) → text ≡ front ++ digit ∷ [] → 48 ≤ digit → digit < 57 → next ≡ front ++ (digit + 1) ∷ []
+
 -- The starts of an exploration: from two images, or from the bytes of both slots.
 
 -- The first refusal of two images, or none: a fault of the first, one of the second, or that one of them does not fit.

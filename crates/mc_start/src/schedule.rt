@@ -1,7 +1,7 @@
 //! Schedules of power cuts.
-ghost use Rattle.std.specs.Prelude.{◌≡◌, ◌↔◌, true, ℕ, ◌+◌, ◌<◌, ◌≤◌, ◌^◌, ◌++◌, List, [], ◌∷◌, length, take, decimal, Some, Ok, IfOk, MatchResult, OnOk, OnErr};
+ghost use Rattle.std.specs.Prelude.{◌≡◌, ◌↔◌, true, ℕ, ◌+◌, ◌<◌, ◌≤◌, ◌^◌, ◌++◌, List, [], ◌∷◌, false, length, take, decimal, Some, Ok, IfOk, MatchResult, OnOk, OnErr};
 ghost use Rattle.mc_tree.specs.Tree.{Precedes};
-ghost use Rattle.mc_start.specs.Start.{lowered, schedule_text, FitsCut, IsSchedule, IsAdded, ReadsSchedule};
+ghost use Rattle.mc_start.specs.Start.{lowered, on_last, schedule_text, FitsCut, IsNextText, IsSchedule, IsAdded, ReadsSchedule};
 
 use mc_output::{Line, MOST_LINE};
 use mc_tree::precedes;
@@ -158,6 +158,29 @@ impl Schedule {
         ensures { (result ≡ true) ↔ Precedes self.now other.now }
     {
         precedes(self.cuts(), other.cuts())
+    }
+
+    /// Makes its last cut one greater, where it has one that is not the greatest number; says whether it has.
+    #[inline]
+    pub fn count_up(&mut self) -> bool
+        ensures counted { result ≡ true → self.new ≡ on_last (λ n. n + 1) self.old }
+        ensures text { result ≡ true → IsNextText (schedule_text self.old)
+            (schedule_text self.new) }
+        ensures some { (l : List ℕ) (n : ℕ) → self.old ≡ l ++ n ∷ [] → n + 1 < 2 ^ 32 → result
+            ≡ true }
+        ensures same { result ≡ false → self.new ≡ self.old }
+    {
+        if self.len == 0 {
+            return false;
+        }
+        let last = self.len - 1;
+        match self.cuts[last].checked_add(1) {
+            Some(cut) => {
+                self.cuts[last] = cut;
+                true
+            }
+            None => false,
+        }
     }
 
     /// Adds a cut at the end.

@@ -77,6 +77,10 @@ pub last_ordered : (n : ℕ) (l : List (ℕ × ℕ)) (cut : ℕ × ℕ) → Asce
 last_ordered n [] cut o = (o.0, o.0, o.1)
 last_ordered n (x ∷ l) cut o = let rest = last_ordered x.0 l cut o.2 in (omega (arith, o.0, rest.0), rest.1, rest.2)
 
+-- A cut so much later in its round.
+abbrev pub number_later : ℕ → ℕ × ℕ → ℕ × ℕ
+number_later j cut = (cut.0, cut.1 + j)
+
 -- ---- the cuts along a path
 
 module _ {N : Type 0} (t : Tree N) (next : N → N) where

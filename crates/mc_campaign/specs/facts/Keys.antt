@@ -1,20 +1,31 @@
 -- Campaigns are the paths of the tree of two rounds.
-use Rattle.std.specs.Prelude.{◌≡◌, ◌≤◌, ◌+◌, ◌*◌, ℕ, Bool, refl}
+use Rattle.std.specs.Prelude.{◌≡◌, ◌≤◌, ◌+◌, ◌*◌, ℕ, Bool, List, refl}
 use Rattle.std.proofs.{Common.{arith, ap}, Math.Nat.{mul-le-mul_right}}
 use Rattle.mc_tree.specs.Tree.{round_one}
 use Rattle.mc_boot.specs.Plan.{PowerOn}
 use Rattle.mc_flash.specs.{Geometry.{Geometry}, Usage.{Seen, Usage, most_operations, most_saved}, declared.flash.Grain.{Grain}}
 use Rattle.mc_flash.specs.declared.flash.Grain.TheVariants as grains
-use Rattle.mc_start.specs.facts.Room.{limits_are}
+use Rattle.mc_start.specs.{Start.{on_last}, facts.Counting.{on_last-twice}, facts.Room.{limits_are}}
+use Rattle.mc_campaign.specs.facts.Cuts.{number_later}
 use Rattle.mc_walk.specs.Walks.{IsClear}
 use Rattle.mc_explore.specs.inner.Exploring.{AreKeys, LoadsFor}
-use Rattle.mc_campaign.specs.{inner.TwoRounds.{cuts_along, rounds, two_rounds_model}, Rows.{most_for_row, campaigns}}
+use Rattle.mc_campaign.specs.{inner.TwoRounds.{cuts_along, rounds, two_rounds_model}, Rows.{ShownRow, most_for_row, campaigns}}
 use Rattle.mc_campaign.specs.facts.Paths.{listed_along, path_of, same_order}
 
 -- A boot makes some operation at most.
 pub some_operations : (grain : Grain) (g : Geometry) → 1 ≤ most_operations grain g
 some_operations grains.Call g = omega arith
 some_operations grains.Unit g = omega arith
+
+-- A row whose last cut is counted up by so much, and by more.
+abbrev with_campaign : ShownRow → List (ℕ × ℕ) → ShownRow
+with_campaign row c = record { campaign = c; first = row.first; second = row.second }
+
+abbrev pub counted_up : ℕ → ShownRow → ShownRow
+counted_up j row = with_campaign row (on_last (number_later j) row.campaign)
+
+pub row_up : (row : ShownRow) (j : ℕ) → counted_up (j + 1) (counted_up 1 row) ≡ counted_up (j + 2) row
+row_up row j = ap (with_campaign row) (on_last-twice (number_later 1) (number_later (j + 1)) (number_later (j + 2)) (λ c. ap (λ n. (c.0, n)) (omega arith)) row.campaign)
 
 module _ (start : PowerOn) (confirms : Bool) where
   pub are_campaigns : AreKeys campaigns (rounds confirms) (round_one start) start confirms (cuts_along confirms start)

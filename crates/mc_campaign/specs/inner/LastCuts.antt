@@ -1,5 +1,5 @@
 -- The campaigns of the most cuts: what is told after their last cuts is found among what is told of the children of another node.
-use Rattle.std.specs.Prelude.{Bool, List, Some, if◌then◌else◌, length, nat_lt, ℕ, ◌+◌, ◌-◌, ◌<◌, ◌≡◌, ◌≤◌}
+use Rattle.std.specs.Prelude.{Bool, List, Some, if◌then◌else◌, length, min, nat_lt, ℕ, ◌+◌, ◌-◌, ◌<◌, ◌≡◌, ◌≤◌}
 use Rattle.mc_boot.specs.{Outcome.{ops_of, outcome_of, shown}, Plan.{PowerOn}, SharedTail.{index_in_parent}, declared.outcome.Outcome.{Outcome}, declared.shared_tail.SharedTail.{SharedTail}}
 use Rattle.mc_campaign.specs.{declared.last_cuts.Ahead.{Ahead}, declared.last_cuts.Ends.{Ends}, declared.rounds.TwoRounds.{TwoRounds}}
 use Rattle.mc_campaign.specs.inner.TwoRounds.{began_at, cuts_along, model_of, rounds, second_start}
@@ -21,6 +21,10 @@ first_width (round_two began x) = 0
 -- A child by its round and its number there, where so many lie in the first.
 abbrev pub cut_at : ℕ → ℕ → ℕ × ℕ
 cut_at in_first number = if nat_lt number in_first then (1, number) else (2, number - in_first)
+
+-- How many of so many last cuts lie in the same round from that one on.
+abbrev pub left_in_round : ℕ → ℕ → ℕ → ℕ
+left_in_round in_first number count = (if nat_lt number in_first then min in_first count else count) - number
 
 -- How the first round ends there: as it was told, or as it had ended before.
 abbrev pub first_there : Ahead → Ends → ℕ → Outcome

@@ -1,12 +1,22 @@
 -- Schedules are the paths of the tree of boots.
-use Rattle.std.specs.Prelude.{◌≤◌, ◌+◌, ◌*◌, ℕ, Bool, refl}
+use Rattle.std.specs.Prelude.{◌≡◌, ◌≤◌, ◌+◌, ◌*◌, ℕ, Bool, List, refl}
 use Rattle.std.proofs.{Common.{arith, ap}, Math.Nat.{mul-le-mul_right}}
 use Rattle.mc_boot.specs.Plan.{PowerOn}
 use Rattle.mc_flash.specs.Usage.{Seen, Usage, most_operations, most_saved}
-use Rattle.mc_start.specs.facts.Room.{limits_are}
+use Rattle.mc_start.specs.{Start.{on_last}, facts.Counting.{on_last-twice}, facts.Room.{limits_are}}
 use Rattle.mc_walk.specs.Walks.{IsClear}
-use Rattle.mc_explore.specs.{inner.OneRound.{boots, one_round}, Rows.{most_for_row, subject}}
+use Rattle.mc_explore.specs.{inner.OneRound.{boots, one_round}, Rows.{ShownRow, most_for_row, subject}}
 use Rattle.mc_explore.specs.{facts.Occurring.{member_of, path_of}, inner.Exploring.{AreKeys, LoadsFor}}
+
+-- A row whose last cut is counted up by so much, and by more.
+abbrev with_schedule : ShownRow → List ℕ → ShownRow
+with_schedule row l = record { schedule = l; outcome = row.outcome }
+
+abbrev pub counted_up : ℕ → ShownRow → ShownRow
+counted_up j row = with_schedule row (on_last (λ n. n + j) row.schedule)
+
+pub row_up : (row : ShownRow) (j : ℕ) → counted_up (j + 1) (counted_up 1 row) ≡ counted_up (j + 2) row
+row_up row j = ap (with_schedule row) (on_last-twice (λ n. n + 1) (λ n. n + (j + 1)) (λ n. n + (j + 2)) (λ n. omega arith) row.schedule)
 
 module _ (start : PowerOn) where
   pub are_schedules : AreKeys subject boots start start tt (λ path. path)

@@ -1,8 +1,8 @@
 -- What is told of the next of the last steps after a path.
 use Rattle.std.proofs.Common.{arith, subst, sym}
-use Rattle.std.specs.Prelude.{IsSomeAnd, List, None, Option, Some, [], ℕ, ◌++◌, ◌+◌, ◌-◌, ◌<◌, ◌∷◌, ◌≡◌}
+use Rattle.std.specs.Prelude.{IsSomeAnd, List, None, Option, Some, [], ℕ, ◌++◌, ◌+◌, ◌-◌, ◌<◌, ◌∷◌, ◌≡◌, ◌≤◌}
 use Rattle.mc_boot.specs.{SharedTail.{index_in_parent}, declared.shared_tail.SharedTail.{SharedTail}}
-use Rattle.mc_explore.specs.{declared.at_cuts.AtCuts.{AtCuts}, inner.LastCuts.{AreKept, AreLastCuts}, inner.Runs.{IsIn, IsSplit}}
+use Rattle.mc_explore.specs.{declared.at_cuts.AtCuts.{AtCuts}, inner.LastCuts.{AreKept, AreLastCuts, AreToldAlike}, inner.Runs.{IsSplit}}
 use Rattle.mc_tree.specs.Tree.{landed}
 use Rattle.mc_walk.specs.TreeModel.{TreeModel}
 
@@ -23,9 +23,11 @@ module _ {N A T O : Type 0} (k : TreeModel N A T) (IsLike : List ℕ → List �
   pub like_there : IsLike (path ++ next ∷ []) (kept.parent_path ++ index_in_parent tail next ∷ [])
   like_there = are.joined.are_like.like next inside
 
-  pub told_there : (found : Option O) → ((i : ℕ) → index_in_parent tail next ≡ kept.first + i → IsSplit kept.told.items kept.count → i < kept.count
-      → IsSomeAnd found (IsIn kept.told.items kept.count i)) → AreKept k IsLike IsTold kept → IsSomeAnd found (IsTold (kept.parent_path ++ index_in_parent tail next ∷ []))
+  pub told_there : (found : Option (O × ℕ)) → ((i : ℕ) → index_in_parent tail next ≡ kept.first + i → IsSplit kept.told.items kept.count → i < kept.count
+      → IsSomeAnd found (λ f. AreToldAlike tail kept next i f.1 f.0)) → AreKept k IsLike IsTold kept
+      → IsSomeAnd found (λ f. (j : ℕ) → j ≤ f.1 → IsTold (kept.parent_path ++ index_in_parent tail (next + j) ∷ []) f.0)
   told_there None is holds = is at at_is holds.at_cuts.split some_there
-  told_there (Some o) is holds =
-      let there = is at at_is holds.at_cuts.split some_there in
-      subst (λ n. IsTold (kept.parent_path ++ n ∷ []) o) (sym at_is) (holds.at_cuts.each there.run at _ there.there there.from there.below)
+  told_there (Some f) is holds = λ j le.
+      let there = is at at_is holds.at_cuts.split some_there j le in
+      let run = there.1 in
+      subst (λ n. IsTold (kept.parent_path ++ n ∷ []) f.0) (sym there.0) (holds.at_cuts.each run.run (at + j) _ run.there run.from run.below)

@@ -1,10 +1,11 @@
 -- The exploration of a subject: its keys as paths, a walk loaded for a start and along a key, rows found without the flash, and how it is
 -- all seen.
-use Rattle.std.specs.Prelude.{Bool, Err, IfSome, List, None, Ok, Option, Result, Some, [], false, length, suc, true, zero, ℕ, ◌++◌, ◌+◌, ◌^◌, ◌↔◌, ◌∷◌, ◌≡◌, ◌≢◌, ◌≤◌}
+use Rattle.std.specs.Prelude.{Bool, Err, IfSome, List, None, Ok, Option, Result, Some, [], false, length, suc, true, zero, ℕ, ◌++◌, ◌+◌, ◌-◌, ◌<◌, ◌^◌, ◌↔◌, ◌∷◌, ◌≡◌, ◌≢◌, ◌≤◌}
 use Rattle.mc_boot.specs.Plan.{PowerOn}
 use Rattle.mc_explore.specs.{Subject.{Explored, IsRowAt, State, Subject}, declared.ahead.RowsAhead.{RowsAhead}}
 use Rattle.mc_flash.specs.{Geometry.{IsLayout}, Usage.{Loads, RanOut, Seen, Spent}}
-use Rattle.mc_tree.specs.Tree.{After, IsNext, IsOver, Position, Precedes, Tree, landed}
+use Rattle.mc_start.specs.Start.{IsNextText}
+use Rattle.mc_tree.specs.Tree.{After, Allowed, IsNext, IsOver, Position, Precedes, Tree, landed}
 use Rattle.mc_walk.specs.TreeModel.{TreeModel}
 use Rattle.mc_walk.specs.Walks.{IsFresh, IsPath, IsSame, StandsAt, StandsBeyond, Toured, Walked, child_cost, position_of}
 use Rattle.mc_walk.specs.{declared.tour.Phase.{Phase}, declared.tour.Phase.TheVariants.{Broken, Done, Fresh, Going}, declared.tour.TourError.{TourError}}
@@ -24,13 +25,14 @@ module _ {C K R U N : Type 0} (x : Subject C K R U) (t : Tree N) (root : N) (sta
 
 -- What an explorer's fields stand for, and what holds of them.
 
--- Rows that are given one after another: the walk, how it stands, and the path of the last row.
-pub record Rowed (B : Type 0) : Type 0 where
+-- Rows that are given one after another: the walk, how it stands, the path of the last row, and that row, where there was one.
+pub record Rowed (B W : Type 0) : Type 0 where
   pub walk : Walked B
   pub phase : Phase
   pub last : List ℕ
+  pub row : Option W
 
-abbrev pub position_in : {B : Type 0} → Rowed B → Position (List ℕ)
+abbrev pub position_in : {B W : Type 0} → Rowed B W → Position (List ℕ)
 position_in rows = position_of rows.phase rows.last
 
 module _ {B C K : Type 0} (begins : B → PowerOn) (choice : B → C) where
@@ -61,15 +63,15 @@ module _ {B C : Type 0} (begins : B → PowerOn) (choice : B → C) where
     pub at_most : bound ≤ 16
     pub counted_is : w.seen.usage.limits.counted ≡ counted
 
-module _ {B K N A T : Type 0} (model : B → TreeModel N A T) (key_of : B → List ℕ → K) where
+module _ {B K W N A T : Type 0} (model : B → TreeModel N A T) (key_of : B → List ℕ → K) where
   -- The path of the last row is that of its key.
-  pub record IsBeyond (rows : Rowed B) (last : K) : Type 0 where
+  pub record IsBeyond (rows : Rowed B W) (last : K) : Type 0 where
     pub listed : IsPath (model rows.walk.flash_tree) rows.walk rows.last
     pub key_is : key_of rows.walk.flash_tree rows.last ≡ last
 
-module _ {B C K N A T : Type 0} (model : B → TreeModel N A T) (begins : B → PowerOn) (choice : B → C) (key_of : B → List ℕ → K) where
+module _ {B C K W N A T : Type 0} (model : B → TreeModel N A T) (begins : B → PowerOn) (choice : B → C) (key_of : B → List ℕ → K) where
   -- What holds of an explorer's fields until it fails.
-  abbrev pub IsSound : Bool → PowerOn → C → ℕ → Rowed B → K → Type 0
+  abbrev pub IsSound : Bool → PowerOn → C → ℕ → Rowed B W → K → Type 0
   IsSound counted start chosen bound rows last =
       rows.phase ≢ Broken → IsOurs begins choice counted start chosen bound rows.walk × IsBeyond model key_of rows last
 
@@ -121,8 +123,15 @@ last_of path None = path
 last_of path (Some x) = with_last path x.next
 
 -- One of them is taken.
-abbrev pub one_taken : {E : Type 0} → RowsAhead E → ℕ → RowsAhead E
-one_taken x near = record { ahead = x.ahead; count = x.count; next = x.next + 1; near = near }
+abbrev pub one_taken : {E : Type 0} → RowsAhead E → ℕ → ℕ → RowsAhead E
+one_taken x near counted_up = record { ahead = x.ahead; count = x.count; next = x.next + 1; near = near; counted_up = counted_up }
+
+-- Those that are the last row with its last cut counted up are among them, and the first of these is taken.
+abbrev pub IsWithin : {E : Type 0} → RowsAhead E → Type 0
+IsWithin x = x.next + x.counted_up ≤ x.count
+
+abbrev pub TakesCountedUp : {E : Type 0} → Option (RowsAhead E) → Option (RowsAhead E) → Type 0
+TakesCountedUp old new = (x : RowsAhead _) × (old ≡ Some x) × (1 ≤ x.counted_up) × (new ≡ Some (one_taken x x.near (x.counted_up - 1)))
 
 -- No row ahead is to come.
 abbrev pub IsSpent : {E : Type 0} → RowsAhead E → Type 0
@@ -138,11 +147,37 @@ pub record AreBeyond {B N A T H E : Type 0} (model : B → TreeModel N A T) (is_
   pub some : 1 ≤ x.count
   pub small : x.count ≤ 2 ^ 31
 
+-- Rows that differ in their last cut alone.
+
+module _ {C K R U : Type 0} (x : Subject C K R U) where
+  -- Their texts are those of their keys, which end so, and then the same.
+  pub record AreNextTexts (old new : R) : Type 0 where
+    pub key : IsNextText (x.key_text (x.key old)) (x.key_text (x.key new))
+    pub rest : List ℕ
+    pub old_is : x.row_text old ≡ x.key_text (x.key old) ++ rest
+    pub new_is : x.row_text new ≡ x.key_text (x.key new) ++ rest
+
+  -- A row is the one before with its last cut counted up.
+  pub record IsCountedUp (up : ℕ → R → R) (old new : Option R) : Type 0 where
+    pub before : R
+    pub was : old ≡ Some before
+    pub is : new ≡ Some (up 1 before)
+    pub text : AreNextTexts before (up 1 before)
+
+-- The children of the node at the end of a path, so many, are there.
+abbrev pub AreAllowed : {N A T : Type 0} → TreeModel N A T → List ℕ → ℕ → Type 0
+AreAllowed k path count = (i : ℕ) → i < count → Allowed k.tree k.root (path ++ i ∷ [])
+
+-- The rows ahead that are a row with its last cut counted up.
+abbrev pub AreCountedUp : {B C K R U E : Type 0} → Subject C K R U → (B → PowerOn) → (B → C) → (B → List ℕ → K) → (ℕ → R → R) → B → List ℕ → R → RowsAhead E → Type 0
+AreCountedUp x begins choice key_of up b path row ahead =
+    (j : ℕ) → j < ahead.counted_up → IsRowAt x begins choice key_of b (path ++ (ahead.next + j) ∷ []) (up (j + 1) row)
+
 -- How the rows of an exploration are seen, and the row that comes next.
 
 module _ {B C K R U N A T : Type 0} (x : Subject C K R U) (model : B → TreeModel N A T) (begins : B → PowerOn) (choice : B → C) (key_of : B → List ℕ → K) where
   -- The row of the next path, with its outcomes; or there is none, and the flash stays.
-  abbrev pub FindsRow : Rowed B → Option R → Rowed B → Type 0
+  abbrev pub FindsRow : {W : Type 0} → Rowed B W → Option R → Rowed B W → Type 0
   FindsRow old (Some row) new =
       IsNext (IsPath (model old.walk.flash_tree) old.walk) (position_in old) new.last
       × IsRowAt x begins choice key_of old.walk.flash_tree new.last row × IsSame old.walk new.walk × (new.phase ≡ Going)
@@ -150,14 +185,15 @@ module _ {B C K R U N A T : Type 0} (x : Subject C K R U) (model : B → TreeMod
       IsOver (IsPath (model old.walk.flash_tree) old.walk) (position_in old) × (new.walk.seen ≡ old.walk.seen) × IsSame old.walk new.walk
       × (new.phase ≡ Done) × (new.last ≡ old.last)
 
-module _ {B N A T : Type 0} (model : B → TreeModel N A T) where
+module _ {B W N A T : Type 0} (model : B → TreeModel N A T) where
   -- It takes no more than to go to a child and to find its summary, and fails only where memory fails the flash. From then on it
   -- has failed, and stays as it is.
-  abbrev pub CostsRow : {X : Type 0} → Rowed B → Result X TourError → Rowed B → Type 0
+  abbrev pub CostsRow : {X : Type 0} → Rowed B W → Result X TourError → Rowed B W → Type 0
   CostsRow old (Ok _) new = (old.phase ≢ Broken) × Spent (child_cost (model old.walk.flash_tree) 0) old.walk.seen new.walk.seen
   CostsRow old (Err errors.Memory) new = (old.phase ≢ Broken) × RanOut old.walk.seen new.walk.seen × (new.phase ≡ Broken)
   CostsRow old (Err errors.Failed) new = (old.phase ≡ Broken) × (new ≡ old)
 
+module _ {B N A T : Type 0} (model : B → TreeModel N A T) where
   -- A tour stands at a position, or at one after the last child of its node.
   abbrev pub StandsFor : Bool → Toured B → Position (List ℕ) → Type 0
   StandsFor true t = StandsBeyond (model t.walk.flash_tree) t
@@ -177,7 +213,7 @@ module _ {B N A T H E : Type 0} (model : B → TreeModel N A T) (holds : B → H
     pub holds_there : holds t.walk.flash_tree kept
     pub stands : IsAtPhase t.walk kept path ahead t.phase
 
-  pub record IsRowing (t : Toured B) (kept : H) (path : List ℕ) (ahead : Option (RowsAhead E)) : Type 0 where
+  pub record IsTouring (t : Toured B) (kept : H) (path : List ℕ) (ahead : Option (RowsAhead E)) : Type 0 where
     pub spent : t.phase ≡ Broken → IfSome ahead IsSpent
     pub sound : t.phase ≢ Broken → IsInStep t kept path ahead
 
@@ -185,3 +221,12 @@ module _ {B N A T H E : Type 0} (model : B → TreeModel N A T) (holds : B → H
   pub record AreFresh (w : Walked B) (kept : H) (path : List ℕ) (x : RowsAhead E) : Type 0 where
     pub beyond : AreBeyond model is_ahead w kept path x
     pub fresh : x.next ≡ 0
+    pub none : x.counted_up ≡ 0
+
+-- And of the last row, where there was one.
+module _ {B C K R U N A T H E : Type 0} (x : Subject C K R U) (model : B → TreeModel N A T) (begins : B → PowerOn) (choice : B → C) (key_of : B → List ℕ → K) (up : ℕ → R → R)
+    (holds : B → H → Type 0) (is_ahead : B → H → List ℕ → E → ℕ → Type 0) where
+  pub record IsRowing (t : Toured B) (kept : H) (path : List ℕ) (ahead : Option (RowsAhead E)) (row : Option R) : Type 0 where
+    pub touring : IsTouring model holds is_ahead t kept path ahead
+    pub within : IfSome ahead IsWithin
+    pub counted : t.phase ≢ Broken → IfSome ahead (λ a. IfSome row (λ r. AreCountedUp x begins choice key_of up t.walk.flash_tree path r a))

@@ -1,7 +1,7 @@
 -- The rows of the longest paths: what is told after their last steps is found among what is told of the children of another node.
 use Rattle.std.specs.Prelude.{length, slice_get, ◌-◌, IfSome, List, None, Option, Some, [], ℕ, ◌++◌, ◌+◌, ◌<◌, ◌^◌, ◌∷◌, ◌≡◌, ◌≤◌, ◌⊎◌}
 use Rattle.mc_boot.specs.{Outcome.{outcome_of, shown}, Plan.{PowerOn}, SharedTail.{index_in_parent}, declared.outcome.Outcome.{Outcome}, declared.shared_tail.SharedTail.{SharedTail}}
-use Rattle.mc_explore.specs.{declared.at_cuts.AtCuts.{AtCuts}, declared.at_cuts.Joined.{Joined}, declared.run.Run.{Run}, inner.OneRound.{boots}, inner.Runs.{AreOf}}
+use Rattle.mc_explore.specs.{declared.at_cuts.AtCuts.{AtCuts}, declared.at_cuts.Joined.{Joined}, declared.run.Run.{Run}, inner.OneRound.{boots}, inner.Runs.{AreOf, IsIn}}
 use Rattle.mc_tree.specs.Tree.{landed}
 use Rattle.mc_walk.specs.TreeModel.{TreeModel}
 
@@ -29,6 +29,11 @@ abbrev pub IsOneRunMore : {O : Type 0} → AtCuts O → O → AtCuts O → Type 
 IsOneRunMore old told new =
     ((new.told.items ≡ old.told.items) × (new.count ≡ old.count))
     ⊎ ((new.told.items ≡ old.told.items ++ record { first = old.count; of = told } ∷ []) × (new.count ≡ old.count + 1))
+
+-- That is told at the cuts where those of the other boot from that number on find their flashes, one and so many more.
+abbrev pub AreToldAlike : {O : Type 0} → SharedTail → AtCuts O → ℕ → ℕ → ℕ → O → Type 0
+AreToldAlike tail kept number i more told =
+    (j : ℕ) → j ≤ more → (index_in_parent tail (number + j) ≡ kept.first + (i + j)) × IsIn kept.told.items kept.count (i + j) told
 
 -- What is kept of the cuts of a boot is told of them.
 abbrev pub AreTold : {O : Type 0} → (List ℕ → O → Type 0) → AtCuts O → Type 0

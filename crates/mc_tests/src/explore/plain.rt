@@ -85,12 +85,13 @@ impl Subject for Plain<'_> {
     ghost use Rattle.mc_boot.specs.Plan.{PowerOn};
     ghost use Rattle.mc_tree.specs.Tree.{Precedes};
     ghost use Rattle.mc_start.specs.Cursor.{cursor_of};
-    ghost use Rattle.mc_start.specs.Start.{start_digest};
+    ghost use Rattle.mc_start.specs.Start.{schedule_text, start_digest};
     ghost use Rattle.mc_tree.specs.facts.Order.{paths_in_order};
+    ghost use Rattle.mc_explore.specs.inner.Exploring.{AreNextTexts};
     ghost use Rattle.mc_explore.specs.inner.OneRound.{begins};
     ghost use Rattle.mc_explore.specs.Rows.{fields_of, subject};
     ghost use Rattle.mc_explore.specs.Rows as states;
-    ghost use Rattle.mc_explore.specs.facts.Keys.{are_schedules, one_more, schedule_costs, schedules_clear};
+    ghost use Rattle.mc_explore.specs.facts.Keys.{are_schedules, counted_up, one_more, row_up, schedule_costs, schedules_clear};
     ghost use Rattle.mc_explore.specs.facts.Listed.{some_rest};
 
     ghost Shown = { states.ShownRow };
@@ -122,6 +123,8 @@ impl Subject for Plain<'_> {
     ghost holds = { λ _ _. Unit {0} };
 
     ghost is_ahead = { λ _ _ _ _ _. ⊥ };
+
+    ghost up = { counted_up };
 
     ghost more = { 1 };
 
@@ -168,7 +171,18 @@ impl Subject for Plain<'_> {
 
     fn row_ahead(self, _kept: &(), _path: &Schedule, rows: &mut RowsAhead<()>) -> Option<Row> {
         rows.next += 1;
+        rows.counted_up = 0;
         None
+    }
+
+    fn count_up(row: &mut Row) -> bool
+        ensures counted { result ≡ true → states.shown_row row.new
+            ≡ counted_up 1 (states.shown_row row.old) }
+        ensures text { result ≡ true → AreNextTexts subject (states.shown_row row.old)
+            (states.shown_row row.new) }
+        ensures same { result ≡ false → row.new ≡ row.old }
+    {
+        OneRound::count_up(row)
     }
 
     fn key(row: &Row) -> Schedule
@@ -206,12 +220,13 @@ impl Subject for Plain<'_> {
         OneRound::cursor(says)
     }
 
-    fn put_row(row: &Row, line: &mut Line, labels: &Labels)
+    fn put_row(row: &Row, line: &mut Line, labels: &Labels) -> usize
         requires { line.old ≡ [] }
+        ensures key { result ≡ length (schedule_text (states.shown_row row.now).schedule) }
         ensures text { line.new ≡ subject.row_text (states.shown_row row.now) }
         ensures length { length line.new < 512 }
     {
-        OneRound::put_row(row, line, labels);
+        OneRound::put_row(row, line, labels)
     }
 
     fn put_key(key: &Schedule, line: &mut Line)
@@ -231,6 +246,8 @@ impl Subject for Plain<'_> {
     }
 
     ghost are_keys = { λ p. are_schedules (begins p.boots) };
+
+    ghost up_more = { row_up };
 
     ghost order = { paths_in_order };
 

@@ -1,32 +1,40 @@
-use Rattle.std.proofs.{Common.{◌≡◌, ◌-◌, suc, arith}, lemmas.Result.{err_from_is_err_and}}
-use Rattle.mc_explore.proofs.{PageRows.{row_paid}, PageText.{began_before, began_in_row, end_began, end_out, full_began, full_out, last_index, page_on}}
+use Rattle.std.proofs.{Common.{◌≡◌, ◌-◌, ap, sym, arith, ◌∙◌}, lemmas.Result.{err_from_is_err_and}}
+use Rattle.mc_explore.proofs.{PageRows.{row_paid}, PageText.{end_began, end_out, full_began, full_out, last_index, page_written, row_began}}
 use Rattle.mc_output.specs.facts.Results.{on_err, on_ok}
 use Rattle.mc_explore.proofs.pages.write_lines.Goals as goal
 
-pub returns-in_err-row-clause-began : goal.returns-in_err-row-clause-began
-returns-in_err-row-clause-began g c =
+pub returns-in_err-write_next_row-clause-began : goal.returns-in_err-write_next_row-clause-began
+returns-in_err-write_next_row-clause-began g c =
     let p = err_from_is_err_and c.from_residual.result c.from_residual.ensures.1 in
-    rw p.1 (began_before c.fill.invariant.page)
+    rw p.1 (row_began c.fill.invariant.page (c.fill.room - 1) (omega arith) _ c.in_err-write_next_row.ensures.began)
 
-pub returns-in_err-write_row-in-Some-clause-began : goal.returns-in_err-write_row-in-Some-clause-began
-returns-in_err-write_row-in-Some-clause-began g c =
-    let p = err_from_is_err_and c.from_residual-in_err-write_row-in-Some.result c.from_residual-in_err-write_row-in-Some.ensures.1 in
-    let found = rw c.in-Some.is at c.in_ok-row.ensures.found in
-    let room : c.fill.room ≡ suc (c.fill.room - 1) = omega arith in
-    rw p.1 (began_in_row c.fill.invariant.page (c.fill.room - 1) room _ _ _ found c.in_err-write_row-in-Some.ensures.prefix)
+pub returns-then-not-branch-clause-page : goal.returns-then-not-branch-clause-page
+returns-then-not-branch-clause-page g c =
+    let none = rw c.if-not-branch.true at c.in_ok-write_next_row.ensures.writes in
+    on_ok c.write_text.result _ _ (end_out c.fill.invariant.page (c.fill.room - 1) (omega arith) _ none.0 _) (rw none.1 at c.write_text.ensures.whole)
 
-pub returns-in-None-clause-page : goal.returns-in-None-clause-page
-returns-in-None-clause-page g c =
-    let found = rw c.in-None.is at c.in_ok-row.ensures.found in
-    on_ok c.write_text.result _ _ (end_out c.fill.invariant.page (c.fill.room - 1) (omega arith) _ found _) c.write_text.ensures.whole
-
-pub returns-in-None-clause-began : goal.returns-in-None-clause-began
-returns-in-None-clause-began g c =
-    let found = rw c.in-None.is at c.in_ok-row.ensures.found in
-    on_err c.write_text.result _ _ (end_began c.fill.invariant.page (c.fill.room - 1) (omega arith) _ found _) c.write_text.ensures.prefix
+pub returns-then-not-branch-clause-began : goal.returns-then-not-branch-clause-began
+returns-then-not-branch-clause-began g c =
+    let none = rw c.if-not-branch.true at c.in_ok-write_next_row.ensures.writes in
+    on_err c.write_text.result _ _ (end_began c.fill.invariant.page (c.fill.room - 1) (omega arith) _ none.0 _) (rw none.1 at c.write_text.ensures.prefix)
 
 pub fill-preserved : goal.fill-preserved
-fill-preserved g c = grind (arith, page_on, row_paid)
+fill-preserved g c =
+    let one = rw c.if-not-branch.false at c.in_ok-write_next_row.ensures.writes in
+    let goes = c.in_ok-write_next_row.ensures.goes in
+    let l = g.S.RowSource.listing in
+    let inv = c.fill.invariant in
+    let moved = one.1.2 in
+    let there = ap l.position moved ∙ g.met.S.RowSource.laws.position_is _ _ in
+    record {
+      page = page_written inv.page (c.fill.room - 1) (omega arith) _ _ one;
+      not_lost = λ lost. absurd (let no = sym there ∙ lost in cc);
+      stuck = λ lost. absurd (let no = goes.stays_lost (inv.stuck lost).0 in cc);
+      unwritten = λ lost. absurd (let no = sym there ∙ lost in cc);
+      cost_is = ap g.S.RowSource.most_for_row moved ∙ g.met.S.RowSource.cost_stays _ _ ∙ inv.cost_is;
+      limits = goes.limits ∙ inv.limits;
+      applied = row_paid _ _ c.fill.room (c.fill.room - 1) _ _ (omega arith) (rw inv.cost_is at c.in_ok-write_next_row.ensures.applied) inv.applied;
+    }
 
 pub returns-clause-page : goal.returns-clause-page
 returns-clause-page g c =

@@ -22,7 +22,7 @@ returns-clause-resumes g c = (
   listed g.X.Subject.subject g.X.FlashTree.model g.X.Subject.begins g.X.Subject.choice g.X.Subject.key_of g.met.X.Subject.are_keys g.F.Flash.counted (begun c.args.start.now) c.args.choice
       c.args.bound _ c.in_ok-walk.walk c.begin.new.self c.follow.new.walk c.in_ok-begin.field-0 c.args.key.now c.in_ok-walk.ensures.loaded c.in_ok-begin.ensures.begins c.in_ok-begin.ensures.spends
       c.in_ok-follow.field-0 c.if-not-branch.false c.in_ok-follow.ensures.follows c.in_ok-follow.ensures.no_allocation_failed c.requires,
-  ap (λ (t : Rowed g.row.X.Denot). state_of g.X.Subject.begins g.X.Subject.choice t.walk (position_of t.phase c.args.key.now)) c.after.ensures
+  ap (λ (t : Rowed g.row.X.Denot g.row.X-Row.Denot). state_of g.X.Subject.begins g.X.Subject.choice t.walk (position_of t.phase c.args.key.now)) c.after.ensures
       ∙ beyond_it g.X.Subject.subject g.X.FlashTree.model g.X.Subject.begins g.X.Subject.choice g.X.Subject.key_of g.met.X.Subject.are_keys g.F.Flash.counted (begun c.args.start.now) c.args.choice
       c.args.bound _ c.in_ok-walk.walk c.begin.new.self c.follow.new.walk c.in_ok-begin.field-0 c.args.key.now c.in_ok-walk.ensures.loaded c.in_ok-begin.ensures.begins c.in_ok-begin.ensures.spends
       c.in_ok-follow.field-0 c.if-not-branch.false c.in_ok-follow.ensures.follows c.in_ok-follow.ensures.no_allocation_failed c.requires,

@@ -12,6 +12,7 @@ invariant_of-explorer g c =
           c.args.choice
           c.args.bound c.fields-fields.result.key c.fields-fields.result.digest c.explorer.invariant.0
           (ap (λ (z : Explored g.row.X-Choice.Denot g.row.X-Key.Denot). z.state) c.explorer.view_is ∙ c.in_ok-explorer.ensures.resumes.1) c.in_ok-check_cursor.ensures.names.digest_is,
+      c.explorer.invariant.2,
     )
 
 pub returns-clause-resumes : goal.returns-clause-resumes

@@ -1,4 +1,4 @@
-use Rattle.std.proofs.{Common.{ap, arith, length, rules, sym, ◌*◌, ◌∙◌, ◌≡◌, ◌≤◌}, Math.Nat.{mul-le-mul_right}}
+use Rattle.std.proofs.{Common.{ap, arith, length, sym, ◌*◌, ◌∙◌, ◌≡◌, ◌≤◌}, Math.Nat.{mul-le-mul_right}}
 use Rattle.mc_flash.specs.Flash.{IsSized}
 use Rattle.mc_start.proofs.Starts.{known}
 use Rattle.mc_start.proofs.start.Start.again.Goals as goal

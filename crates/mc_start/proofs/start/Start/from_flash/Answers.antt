@@ -1,9 +1,6 @@
-use Rattle.std.proofs.Common.{◌≡◌, ℕ, ◌+◌, ◌*◌, ◌≤◌, List, length, take, drop, None, Ok, Option, Some, ap, refl, rules, sym, arith, ◌∙◌}
+use Rattle.std.proofs.Common.{◌≡◌, ℕ, ◌+◌, ◌*◌, ◌≤◌, List, length, take, drop, Ok, ap, refl, rules, arith}
 use Rattle.std.proofs.{Math.Nat.{mul-le-mul_right}, lemmas.Bool.Decides.{nat_tests}}
-use Rattle.std.specs.Prelude.{option_map}
 use Rattle.mc_flash.specs.{Flash.{Content, size_of}, Geometry.{Geometry}, declared.op.Slot.TheVariants.{Primary, Secondary}}
-use Rattle.mc_boot.specs.{Plan.{identity_of}, declared.image.ImageId.{ImageId}}
-use Rattle.mc_image.specs.Valid.{id_of}
 use Rattle.mc_start.specs.Start.{of_flash}
 use Rattle.mc_start.proofs.Starts.{known}
 use Rattle.mc_start.proofs.start.Start.from_flash.Goals as goal
