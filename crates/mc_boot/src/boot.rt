@@ -310,6 +310,34 @@ impl Boot {
         }
     }
 
+    // Makes that operation, which is the next one.
+    fn make<F: Flash>(&mut self, flash: &mut F, op: Op) -> Result<(), FlashError>
+        requires layout { IsBootOf (F.seen flash.old).geometry self.old }
+        requires first { slice_get (to_come self.old) 0 ≡ Some op }
+        requires inside { CanTry (F.seen flash.old).geometry op }
+        requires at_most { self.old.done < 204000000 }
+        ensures step { Steps (progress self.old) (F.seen flash.old) result (progress self.new)
+            (F.seen flash.new) }
+        ensures come { (r : Rules) (s : Content) → let x = power_on r (F.seen flash.old).geometry s
+            in HasCome x (progress self.old) (F.seen flash.old).content
+            → HasCome x (progress self.new) (F.seen flash.new).content }
+        ensures whole { all_of self.new ≡ all_of self.old }
+        ensures layout { IsBootOf (F.seen flash.new).geometry self.new }
+        ensures keeps { Keeps (F.seen flash.old) (F.seen flash.new) }
+    {
+        match perform(flash, op) {
+            Ok(()) => {
+                self.done += 1;
+                Ok(())
+            }
+            Err(FlashError::NotErased) => {
+                self.faulted = true;
+                Err(FlashError::NotErased)
+            }
+            Err(FlashError::Memory) => Err(FlashError::Memory),
+        }
+    }
+
     /// Makes the next operation. At the end it does nothing and returns Ok.
     ///
     /// # Errors
@@ -329,24 +357,14 @@ impl Boot {
         // The layout and the checkpoints stay.
         ensures keeps { Keeps (F.seen flash.old) (F.seen flash.new) }
     {
-        let Some(op) = self.next_op() else {
-            return Ok(());
-        };
-        match perform(flash, op) {
-            Ok(()) => {
-                self.done += 1;
-                Ok(())
-            }
-            Err(FlashError::NotErased) => {
-                self.faulted = true;
-                Err(FlashError::NotErased)
-            }
-            Err(FlashError::Memory) => Err(FlashError::Memory),
+        match self.next_op() {
+            Some(op) => self.make(flash, op),
+            None => Ok(()),
         }
     }
 
-    // Makes the copies that are next as one, if there are some, and returns whether it did.
-    fn leap_on<F: Flash>(&mut self, flash: &mut F) -> Result<bool, FlashError>
+    // Makes the copies that are next as one, where the next operation is a copy, and returns whether it did.
+    fn leap_on<F: Flash>(&mut self, flash: &mut F, op: &Op) -> Result<bool, FlashError>
         requires { IsBootOf (F.seen flash.old).geometry self.old }
         ensures leaps { LeapsOn (progress self.old) (F.seen flash.old) result (progress self.new)
             (F.seen flash.new) }
@@ -354,15 +372,21 @@ impl Boot {
         ensures layout { IsBootOf (F.seen flash.new).geometry self.new }
         ensures keeps { Keeps (F.seen flash.old) (F.seen flash.new) }
     {
+        let Op::Copy(_, _, _, _, _) = op else {
+            return Ok(false);
+        };
         match self.copies(u32::MAX) {
             Some(copies) => self.leap(flash, &copies),
             None => Ok(false),
         }
     }
 
-    // Makes the next operation, or all copies that are next as one.
-    fn stride<F: Flash>(&mut self, flash: &mut F) -> Result<(), FlashError>
+    // Makes that operation, which is the next one, or all copies that are next as one.
+    fn stride<F: Flash>(&mut self, flash: &mut F, op: Op) -> Result<(), FlashError>
         requires layout { IsBootOf (F.seen flash.old).geometry self.old }
+        requires first { slice_get (to_come self.old) 0 ≡ Some op }
+        requires inside { CanTry (F.seen flash.old).geometry op }
+        requires at_most { self.old.done < 204000000 }
         requires room { Allows (left_of (F.seen flash.old).geometry (progress self.old))
             (F.seen flash.old) }
         ensures goes { GoesOn self.old (F.seen flash.old) self.new (F.seen flash.new) }
@@ -373,10 +397,10 @@ impl Boot {
         ensures out { IfErr result (λ e. (e ≡ FlashError.Memory) × RanOut (F.seen flash.old)
             (F.seen flash.new)) }
     {
-        if self.leap_on(flash)? {
+        if self.leap_on(flash, &op)? {
             return Ok(());
         }
-        match self.step(flash) {
+        match self.make(flash, op) {
             Ok(()) | Err(FlashError::NotErased) => Ok(()),
             Err(FlashError::Memory) => Err(FlashError::Memory),
         }
@@ -415,8 +439,8 @@ impl Boot {
         ensures counts { CountsOn (progress self.old) (progress self.new) (F.seen flash.old)
             (F.seen flash.new) }
     {
-        'steps: while self.peek().is_some() {
-            self.stride(flash)?;
+        'steps: while let Some(op) = self.next_op() {
+            self.stride(flash, op)?;
         }
         Ok(())
     }

@@ -1,3 +1,4 @@
+use Rattle.std.specs.Prelude.{None, Option, Some, false, is_some, refl, ◌≡◌}
 use Rattle.mc_boot.specs.Boot.{progress, to_come, goes_further}
 use Rattle.mc_boot.specs.facts.Steps.{comes_allows, counts_on_both, none_first, step_spends_both}
 use Rattle.mc_boot.proofs.boot.Boot.finish.Goals as goal
@@ -18,5 +19,9 @@ steps-preserved g c =
       spends = step_spends_both (progress c.args.self.now) p q old now new i.spends e.ok.spends;
     }
 
+no_some : {A : Type 0} (o : Option A) → ((x : A) → o ≡ Some x → ⊥) → is_some o ≡ false
+no_some None not = refl
+no_some (Some x) not = absurd (not x refl)
+
 pub returns-clause-end : goal.returns-clause-end
-returns-clause-end g c = none_first (to_come c.steps.self) c.peek.result c.peek.ensures.first cc
+returns-clause-end g c = none_first (to_come c.steps.self) c.next_op.result c.next_op.ensures.first (no_some c.next_op.result c.in_default.not-Some)

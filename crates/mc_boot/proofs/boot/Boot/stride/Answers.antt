@@ -25,12 +25,12 @@ returns-then-branch-clause-ok g c =
 pub returns-in-Ok-clause-counts : goal.returns-in-Ok-clause-counts
 returns-in-Ok-clause-counts g c =
     let still = rw c.if-branch.false at c.in_ok-leap_on.ensures.leaps in
-    then_counts (progress c.args.self.now) (progress c.leap_on.new.self) (progress c.step.new.self) (g.F.Flash.seen c.args.flash.now) (g.F.Flash.seen c.leap_on.new.flash)
-    (g.F.Flash.seen c.step.new.flash) still (step_counts (progress c.leap_on.new.self) (progress c.step.new.self) _ _ c.step.result c.step.ensures.step)
+    then_counts (progress c.args.self.now) (progress c.leap_on.new.self) (progress c.make.new.self) (g.F.Flash.seen c.args.flash.now) (g.F.Flash.seen c.leap_on.new.flash)
+    (g.F.Flash.seen c.make.new.flash) still (step_counts (progress c.leap_on.new.self) (progress c.make.new.self) _ _ c.make.result c.make.ensures.step)
 
 pub returns-in-Ok-clause-ok : goal.returns-in-Ok-clause-ok
 returns-in-Ok-clause-ok g c =
     let still = rw c.if-branch.false at c.in_ok-leap_on.ensures.leaps in
-    let fine : c.step.result ≡ Err errors.Memory → ⊥ = λ memory. absurd cc in
-    then_comes (progress c.args.self.now) (progress c.leap_on.new.self) (progress c.step.new.self) (g.F.Flash.seen c.args.flash.now) (g.F.Flash.seen c.leap_on.new.flash)
-    (g.F.Flash.seen c.step.new.flash) still (step_less (progress c.leap_on.new.self) (progress c.step.new.self) _ _ c.step.result fine c.step.ensures.step)
+    let fine : c.make.result ≡ Err errors.Memory → ⊥ = λ memory. absurd cc in
+    then_comes (progress c.args.self.now) (progress c.leap_on.new.self) (progress c.make.new.self) (g.F.Flash.seen c.args.flash.now) (g.F.Flash.seen c.leap_on.new.flash)
+    (g.F.Flash.seen c.make.new.flash) still (step_less (progress c.leap_on.new.self) (progress c.make.new.self) _ _ c.make.result fine c.make.ensures.step)
