@@ -1,6 +1,6 @@
 -- How a boot on its way is seen: how far it has come, what a step does, and what is left of it.
 use Rattle.std.proofs.Common.{subst, sym, ◌∙◌}
-use Rattle.std.specs.Prelude.{Bool, Err, IfSome, List, None, Ok, Option, Result, Some, [], drop, false, if◌then◌else◌, length, take, true, ℕ, ◌*◌, ◌+◌, ◌<◌, ◌∷◌, ◌≡◌, ◌≤◌}
+use Rattle.std.specs.Prelude.{Bool, Err, IfSome, List, None, Ok, Option, Result, Some, [], drop, false, if◌then◌else◌, length, slice_get, take, true, ℕ, ◌*◌, ◌+◌, ◌<◌, ◌∷◌, ◌≡◌, ◌≤◌}
 use Rattle.mc_boot.specs.{Copies.{AreCopies, whole_copy}, Outcome.{applied, happening}, Plan.{Plan, PowerOn, new_list, plan, power_on, powered, resumed_list}, declared.boot.Boot.{Boot}}
 use Rattle.mc_boot.specs.{declared.course.Course.{Course}, declared.course.Opening.{Opening}, declared.course.Opening.TheVariants.{New, Resumed}}
 use Rattle.mc_boot.specs.{declared.transfer.Copies.{Copies}, declared.transfer.Transfer.{Transfer}}
@@ -50,6 +50,10 @@ progress b = record { rules = b.rules; kind = b.kind; to_come = to_come b; count
 -- The boot is one of a flash of that layout.
 abbrev pub IsBootOf : Geometry → Boot → Type 0
 IsBootOf g b = IfSome b.course (λ c. c.layout ≡ in_pieces c.grain g)
+
+-- That operation is the next one of a boot; the flash can try it, and not many happened.
+abbrev pub IsNextOp : Geometry → Boot → Op → Type 0
+IsNextOp g b op = (slice_get (to_come b) 0 ≡ Some op) × CanTry g op × (b.done < 204000000)
 
 -- At power-on.
 abbrev pub begun : Rules → Plan → Progress

@@ -53,7 +53,7 @@ fn confirms(kind: SwapType, image_ok: Flag) -> bool
 }
 
 impl Boot {
-    ghost use Rattle.mc_boot.specs.Boot.{all_of, to_come, progress, IsBootOf, Steps, Leaps, LeapsOn, begun, HasCome, GoesOn, IsCold, left_of, CountsOn};
+    ghost use Rattle.mc_boot.specs.Boot.{all_of, to_come, progress, IsBootOf, Steps, Leaps, LeapsOn, IsNextOp, begun, HasCome, GoesOn, IsCold, left_of, CountsOn};
     ghost use Rattle.mc_boot.specs.Copies.{AreCopies, whole_copy};
     ghost use Rattle.mc_boot.specs.Outcome.{shown, report, outcome_of};
 
@@ -313,9 +313,7 @@ impl Boot {
     // Makes that operation, which is the next one.
     fn make<F: Flash>(&mut self, flash: &mut F, op: Op) -> Result<(), FlashError>
         requires layout { IsBootOf (F.seen flash.old).geometry self.old }
-        requires first { slice_get (to_come self.old) 0 ≡ Some op }
-        requires inside { CanTry (F.seen flash.old).geometry op }
-        requires at_most { self.old.done < 204000000 }
+        requires next { IsNextOp (F.seen flash.old).geometry self.old op }
         ensures step { Steps (progress self.old) (F.seen flash.old) result (progress self.new)
             (F.seen flash.new) }
         ensures come { (r : Rules) (s : Content) → let x = power_on r (F.seen flash.old).geometry s
@@ -384,9 +382,7 @@ impl Boot {
     // Makes that operation, which is the next one, or all copies that are next as one.
     fn stride<F: Flash>(&mut self, flash: &mut F, op: Op) -> Result<(), FlashError>
         requires layout { IsBootOf (F.seen flash.old).geometry self.old }
-        requires first { slice_get (to_come self.old) 0 ≡ Some op }
-        requires inside { CanTry (F.seen flash.old).geometry op }
-        requires at_most { self.old.done < 204000000 }
+        requires next { IsNextOp (F.seen flash.old).geometry self.old op }
         requires room { Allows (left_of (F.seen flash.old).geometry (progress self.old))
             (F.seen flash.old) }
         ensures goes { GoesOn self.old (F.seen flash.old) self.new (F.seen flash.new) }

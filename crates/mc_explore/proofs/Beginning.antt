@@ -13,7 +13,8 @@ use Rattle.mc_explore.proofs.Visiting.{same_begun}
 
 module _ {B C K R U N A T : Type 0} (x : Subject C K R U) (model : B → TreeModel N A T) (begins : B → PowerOn) (choice : B → C) (key_of : B → List ℕ → K)
     (keys : (b : B) → AreKeys x (model b).tree (model b).root (begins b) (choice b) (key_of b)) where
-  pub started : {W : Type 0} (row : Option W) (counted : Bool) (start : PowerOn) (chosen : C) (bound : ℕ) (w : Walked B) (last : K) → IsLoaded model begins choice counted start chosen bound w → last ≡ x.no_key → bound ≤ 16
+  pub started : {W : Type 0} (row : Option W) (counted : Bool) (start : PowerOn) (chosen : C) (bound : ℕ) (w : Walked B) (last : K)
+      → IsLoaded model begins choice counted start chosen bound w → last ≡ x.no_key → bound ≤ 16
       → IsSound model begins choice key_of counted start chosen bound (record { walk = w; phase = phases.Fresh; last = []; row = row }) last
   started {W} row counted start chosen bound w last l none at_most = grind arith
 

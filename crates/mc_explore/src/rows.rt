@@ -109,7 +109,12 @@ impl<F: Flash + Drop, X: Subject> Rows<F, X> {
         requires stands { walk.stands ≡ true }
         requires at_most { walk.bound ≤ 16 }
         requires kept { X.holds walk.flash_tree kept }
-        ensures { result ≡ record { walk = walk; phase = Phase.Going; last = walk.path; row = None } }
+        ensures { result ≡ record {
+          walk = walk;
+          phase = Phase.Going;
+          last = walk.path;
+          row = None;
+        } }
     {
         let path = Schedule::of(walk.path().as_slice());
         Rows {

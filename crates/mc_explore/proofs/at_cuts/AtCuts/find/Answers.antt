@@ -26,7 +26,8 @@ pub returns-then-number-erases : goal.returns-then-number-erases
 returns-then-number-erases g c = λ i at split lt.
     let index : i ≡ c.in_ok-index.index = omega (arith, at, c.index_in_parent.ensures, c.in_ok-index.ensures) in
     let t = there g (goal.at.returns-then-number-erases g c).In_ok-run i index split lt in
-    told_alike c.args.shared_tail.now c.args.self.now c.args.number i 0 c.run_near.result c.in_ok-run.run'.now at t.is t.begins.first (omega (arith, t.begins.inside lt)) (λ no. absurd (omega (arith, no)))
+    told_alike c.args.shared_tail.now c.args.self.now c.args.number i 0 c.run_near.result c.in_ok-run.run'.now at t.is t.begins.first (omega (arith, t.begins.inside lt))
+    (λ no. absurd (omega (arith, no)))
 
 pub returns : goal.returns
 returns g c = λ i at split lt.
@@ -34,4 +35,6 @@ returns g c = λ i at split lt.
     let t = there g (goal.at.returns g c).In_ok-run i index split lt in
     let one : c.run_near.result + 1 ≡ suc c.run_near.result = omega arith in
     let end = (rw c.deref-3.ensures.value at c.begin_at-end.ensures) ∙ ap (begin_of c.args.self.now.told.items c.args.self.now.count) one in
-    told_alike c.args.shared_tail.now c.args.self.now c.args.number i _ c.run_near.result c.in_ok-run.run'.now at t.is t.begins.first (omega (arith, end, t.begins.inside lt, c.saturating_sub-2.ensures, c.saturating_sub.ensures, index)) (λ _. omega (arith, c.if-number-erases.false, c.erases.ensures))
+    told_alike c.args.shared_tail.now c.args.self.now c.args.number i _ c.run_near.result c.in_ok-run.run'.now at t.is t.begins.first
+    (omega (arith, end, t.begins.inside lt, c.saturating_sub-2.ensures, c.saturating_sub.ensures, index))
+    (λ _. omega (arith, c.if-number-erases.false, c.erases.ensures))

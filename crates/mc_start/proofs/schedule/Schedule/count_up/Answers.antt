@@ -20,4 +20,5 @@ returns-in-Some-clause-text c = λ yes.
     let old : c.args.self.now ≡ front ++ last ∷ [] = sym c.self.view_is ∙ ends_there s.cuts s.len some within 0 in
     let new = ends_set s.cuts s.len some within c.in-Some.cut ∙ ap (λ (n : ℕ). front ++ n ∷ []) c.in-Some.ensures.1 in
     let is = next_joined (codes ".") decimal front last (last + 1) (decimal_nonempty last (omega (arith, small))) (next_number last small) in
-    subst (λ l. IsNextText (schedule_text l) (schedule_text (take s.len (set s.cuts (s.len - 1) c.in-Some.cut)))) (sym old) (subst (λ l. IsNextText (schedule_text (front ++ last ∷ [])) (schedule_text l)) (sym new) is)
+    subst (λ l. IsNextText (schedule_text l) (schedule_text (take s.len (set s.cuts (s.len - 1) c.in-Some.cut)))) (sym old)
+    (subst (λ l. IsNextText (schedule_text (front ++ last ∷ [])) (schedule_text l)) (sym new) is)
