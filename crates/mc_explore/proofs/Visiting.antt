@@ -119,6 +119,3 @@ module _ {B C K R U N A T : Type 0} (x : Subject C K R U) (model : B → TreeMod
 
       pub stays_so : state_of begins choice new.walk (position_of new.phase last) ≡ state_of begins choice w here
       stays_so = grind arith
-
-      pub sound_over : IsSound model begins choice key_of counted start chosen bound new last
-      sound_over = grind arith

@@ -1,17 +1,14 @@
 //! Goes through the schedules of power cuts, one after another.
-ghost use Rattle.std.specs.Prelude.{◌≡◌, ℕ, List, option_map, ◌+◌, ◌*◌, ◌≤◌, true, length, IfOk, IfErr, IfSome, ◌⊎◌};
+ghost use Rattle.std.specs.Prelude.{◌≡◌, ◌+◌, ◌*◌, ◌≤◌, true, length, IfOk, IfErr, IfSome, ◌⊎◌};
 ghost use Rattle.mc_flash.specs.Usage.{limits_for, most_operations};
 ghost use Rattle.mc_start.specs.Cursor.{cursor_of};
 ghost use Rattle.mc_start.specs.Start.{begun};
-ghost use Rattle.mc_tree.specs.Tree.{After};
-ghost use Rattle.mc_explore.specs.Rows.{most_for_row, row_cost, Finds, schedules, state_after, RowRestarts, Resumes, shown_row, at_start};
+ghost use Rattle.mc_explore.specs.Rows.{row_cost, Finds, state_after, RowRestarts, Resumes, shown_row, at_start};
 ghost use Rattle.mc_explore.specs.Subject.{Explores};
-ghost use Rattle.mc_explore.specs.Pages.{FindsBefore};
 
 use crate::error::ExploreError;
 use crate::one_round::OneRound;
 use crate::row::Row;
-use crate::source::RowSource;
 use crate::tree_explorer::TreeExplorer;
 use mc_flash::Flash;
 use mc_start::{Cursor, Schedule, Start};
@@ -135,29 +132,5 @@ impl<'a, F: Flash + Drop> Explorer<'a, F> {
         ensures marked { length (F.seen result.now).checkpoints ≡ self.now.marked }
     {
         self.inner.flash()
-    }
-
-    // The next row, where it comes before that schedule, if one is given; none where it does not, or where there is no further row.
-    #[inline]
-    pub(crate) fn next_before(
-        &mut self,
-        until: &Option<Schedule>,
-    ) -> Result<Option<Row>, ExploreError>
-        ensures found { IfOk result (λ found. FindsBefore schedules until.now self.old.state
-            (option_map shown_row found) self.new.state) }
-        ensures applied { IfOk result (λ _. self.new.usage.applied ≤ self.old.usage.applied
-            + most_for_row self.old.state.start.rules self.old.state.start.geometry) }
-        ensures explores { Explores F.counted self.old result self.new }
-        ensures err { IfErr result (λ e. (e ≡ ExploreError.Memory) ⊎ (e ≡ ExploreError.Failed)) }
-    {
-        self.inner.next_before(until)
-    }
-
-    // Where to go on after the last row.
-    pub(crate) fn cursor(&self) -> Cursor
-        ensures { (last : List ℕ) → self.now.state.position ≡ After last → result
-            ≡ cursor_of self.now.state.start self.now.state.bound last }
-    {
-        self.inner.cursor()
     }
 }
