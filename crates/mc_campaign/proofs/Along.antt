@@ -8,8 +8,10 @@ use Rattle.mc_flash.specs.{Geometry.{IsLayout}, Usage.{most_operations}, facts.U
 use Rattle.mc_campaign.proofs.Ways.{of_second}
 use Rattle.mc_boot.specs.{Plan.{PowerOn, again}, Outcome.{ops_of}, facts.Bounds.{few_ops}}
 use Rattle.mc_walk.specs.{Walks.{Walked, GoesDown, IsSame, IsThere}, facts.Same.{path_back, same_back}}
-use Rattle.mc_explore.specs.{inner.OneRound.{IsOf, boots}, facts.Summaries.{width_is}, inner.Exploring.{NoAllocationFailed}}
-use Rattle.mc_campaign.specs.{inner.TwoRounds.{cuts_along, model_of, rounds, second_start, AreSummaries}, Campaigns.{IsMember}}
+use Rattle.mc_explore.specs.{inner.OneRound.{IsOf}, facts.Summaries.{width_is}, inner.Exploring.{NoAllocationFailed}}
+use Rattle.mc_explore.specs.Boots.{boots}
+use Rattle.mc_campaign.specs.{inner.TwoRounds.{model_of, AreSummaries}, Campaigns.{IsMember}}
+use Rattle.mc_campaign.specs.Rounds.{cuts_along, rounds, second_start}
 use Rattle.mc_campaign.specs.inner.View.{FollowsCampaign, HasChildOf, IsPathIn, begun_of}
 use Rattle.mc_campaign.specs.declared.campaign.Round.TheVariants as rounds_of
 use Rattle.mc_campaign.specs.{declared.rounds.Both.{Both}, declared.rounds.TwoRounds.{TwoRounds}, facts.Paths.{path_of}}

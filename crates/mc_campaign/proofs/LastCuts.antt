@@ -7,8 +7,10 @@ use Rattle.mc_campaign.proofs.{Along.{labelled-push}, Ways.{child}}
 use Rattle.mc_campaign.specs.{Campaigns.{IsInOrder}, declared.last_cuts.Ahead.{Ahead}, declared.last_cuts.Ends.{Ends}, declared.rounds.TwoRounds.{TwoRounds}}
 use Rattle.mc_campaign.specs.{Rows.{HasOutcomes, ShownRow}, facts.Cuts.{along_ordered, number_later}, facts.Paths.{replayed_at}}
 use Rattle.mc_campaign.specs.inner.LastCuts.{AreAhead, AreLikePaths, EndSo, EndSoAt, IsLikeNode, cut_at, first_there, first_width, left_in_round, node_of}
-use Rattle.mc_campaign.specs.inner.TwoRounds.{began_at, cuts_along, later_from, rounds, second_start}
-use Rattle.mc_explore.specs.{declared.at_cuts.AtCuts.{AtCuts}, inner.OneRound.{begins, boots}}
+use Rattle.mc_campaign.specs.inner.TwoRounds.{began_at, later_from}
+use Rattle.mc_campaign.specs.Rounds.{cuts_along, rounds, second_start}
+use Rattle.mc_explore.specs.{declared.at_cuts.AtCuts.{AtCuts}, inner.OneRound.{begins}}
+use Rattle.mc_explore.specs.Boots.{boots}
 use Rattle.mc_tree.specs.{Tree.{Allowed, RoundNode, label, round_one, round_two}, facts.Order.{landed-push}, facts.Rounds.{outside}}
 
 -- The child of a node by its round and its number there.

@@ -6,10 +6,13 @@ use Rattle.mc_flash.specs.{Geometry.{IsLayout}, Usage.{Counts, no_counts, Seen, 
 use Rattle.mc_flash.specs.facts.Usage.{few_operations}
 use Rattle.mc_boot.specs.{Boot.{progress, left_of}, facts.Bounds.{few_ops}, Restart.{confirmed_if, one_write}, Outcome.{left_by, ops_of}}
 use Rattle.mc_boot.specs.declared.boot.Boot.{Boot}
-use Rattle.mc_walk.specs.TreeModel.{IsAt, IsChild, IsChildSummary}
-use Rattle.mc_explore.specs.{inner.OneRound.{IsOf, at_cut, CanPass, CountsAtMost, IsSummary, LeavesAlike, most_of, one_round}, facts.Occurring.{at_zero}}
+use Rattle.mc_walk.specs.TreeModel.{AreTwinsOn, IsAt, IsChild, IsChildSummary, IsTwin}
+use Rattle.mc_tree.specs.inner.Weights.{AreTwins}
+use Rattle.mc_explore.specs.{inner.OneRound.{IsOf, CanPass, CountsAtMost, IsSummary, LeavesAlike, most_of, one_round}, facts.Occurring.{at_zero}}
+use Rattle.mc_explore.specs.Boots.{at_cut, boots}
 use Rattle.mc_explore.specs.{facts.Summaries.{first_left, first_on, width_is}, declared.one_round.Summary.{Summary}}
-use Rattle.mc_campaign.specs.inner.TwoRounds.{AreSummaries, IsLater, later_from, later_number, second_start, boot_at, left_of_child_boot, most_of_both, owed_at, two_rounds_model}
+use Rattle.mc_campaign.specs.inner.TwoRounds.{AreSummaries, IsLater, began_at, later_from, later_number, boot_at, left_of_child_boot, most_of_both, owed_at, two_rounds_model}
+use Rattle.mc_campaign.specs.Rounds.{rounds, second_start}
 use Rattle.mc_campaign.specs.declared.campaign.Round.TheVariants as rounds_of
 use Rattle.mc_campaign.specs.{declared.rounds.Both.{Both}, declared.rounds.ChildBoot.{ChildBoot}}
 use Rattle.mc_campaign.specs.declared.rounds.ChildBoot.TheVariants as child_boots
@@ -210,3 +213,89 @@ module _ (start : PowerOn) (confirms : Bool) where
   pub width_second : (p : RoundNode PowerOn) (summary : Both) → summary.round ≡ rounds_of.Second → AreSummaries start confirms p summary → summary.second.outcome.ops ≡ width confirms p
   width_second (round_one s) summary round t = let not_so : rounds_of.First ≡ rounds_of.Second = sym t.round_is ∙ round in absurd cc
   width_second (round_two began s) summary round t = width_is s summary.second t.second_is.1
+
+-- ---- twins of the second round
+
+module _ (start : PowerOn) (confirms : Bool) where
+  later_on : (p : RoundNode PowerOn) (i j : ℕ) → IsLater p i → later_number p (i + j) ≡ later_number p i + j
+  later_on (round_one s) i j later = omega (arith, later)
+  later_on (round_two began s) i j later = refl
+
+  is_later_on : (p : RoundNode PowerOn) (i j : ℕ) → IsLater p i → IsLater p (i + j)
+  is_later_on (round_one s) i j later = omega (arith, later)
+  is_later_on (round_two began s) i j later = tt
+
+  -- The child so many further on.
+  child_on : (p : RoundNode PowerOn) (i j : ℕ) → IsLater p i
+      → child confirms p (i + j) ≡ round_two (began_at p) (boots.child (later_from confirms p) (later_number p i + j))
+  child_on p i j later =
+      later_child confirms p (i + j) (is_later_on p i j later)
+      ∙ ap (λ n. round_two (began_at p) (boots.child (later_from confirms p) n)) (later_on p i j later)
+
+  twins_both : (began x y : PowerOn) → AreTwins boots x y → AreTwins (rounds confirms) (round_two began x) (round_two began y)
+  twins_both began x y t = record {
+    width = t.width;
+    one = ap (round_two began) t.one;
+    other = ap (round_two began) t.other;
+    later = λ i. ap (round_two began) (t.later i);
+  }
+
+  -- A child in the second round is on its way as that of its boot.
+  pub second_at : (p : RoundNode PowerOn) (i : ℕ) (boot : Boot) (seen : Seen) → IsAt (two_rounds_model start confirms) p i (child_boots.Second boot) seen
+      → IsAt (one_round start) (later_from confirms p) (later_number p i) boot seen
+  second_at p i boot seen at =
+      record { on_is = at.on_is.1; content_is = at.content_is ∙ ap (λ q. (boot_at q).content) (later_child confirms p i at.on_is.0); layout_is = at.layout_is }
+
+  pub at_second : (p : RoundNode PowerOn) (i j : ℕ) (boot : Boot) (seen : Seen) → IsLater p i
+      → IsAt (one_round start) (later_from confirms p) (later_number p i + j) boot seen → IsAt (two_rounds_model start confirms) p (i + j) (child_boots.Second boot) seen
+  at_second p i j boot seen later at = record {
+    on_is = (is_later_on p i j later, subst (λ n. (one_round start).IsOn (later_from confirms p) n boot) (sym (later_on p i j later)) at.on_is);
+    content_is = at.content_is ∙ ap (λ q. (boot_at q).content) (sym (child_on p i j later));
+    layout_is = at.layout_is;
+  }
+
+  -- The summary of one says how the second round ends, and the other way round.
+  second_of : (p : RoundNode PowerOn) (i : ℕ) (child_summary : Both) → IsLater p i → AreSummaries start confirms (child confirms p i) child_summary
+      → (one_round start).IsSummary (boots.child (later_from confirms p) (later_number p i)) child_summary.second
+  second_of p i child_summary later is =
+      (subst (λ q. AreSummaries start confirms q child_summary) (later_child confirms p i later) is).second_is
+
+  summary_on : (p : RoundNode PowerOn) (i j : ℕ) (child_summary : Both) → IsLater p i → AreSummaries start confirms (child confirms p i) child_summary
+      → (one_round start).IsSummary (boots.child (later_from confirms p) (later_number p i + j)) child_summary.second
+      → AreSummaries start confirms (child confirms p (i + j)) child_summary
+  summary_on p i j child_summary later is second =
+      let here = subst (λ q. AreSummaries start confirms q child_summary) (later_child confirms p i later) is in
+      subst (λ q. AreSummaries start confirms q child_summary) (sym (child_on p i j later))
+      (record { round_is = here.round_is; first_is = here.first_is; second_is = second })
+
+  twins_on : (p : RoundNode PowerOn) (i j : ℕ) → IsLater p i
+      → AreTwins boots (boots.child (later_from confirms p) (later_number p i + j)) (boots.child (later_from confirms p) (later_number p i))
+      → AreTwins (rounds confirms) (child confirms p (i + j)) (child confirms p i)
+  twins_on p i j later t =
+      rw (child_on p i j later, later_child confirms p i later) (twins_both (began_at p) _ _ t)
+
+  -- The next child is a twin where that of the boot is.
+  pub twin_beyond : (p : RoundNode PowerOn) (i : ℕ) (boot : Boot) (child_summary : Both) (seen : Seen) → IsAt (two_rounds_model start confirms) p i (child_boots.Second boot) seen
+      → AreSummaries start confirms (child confirms p i) child_summary
+      → ((one_round start).IsSummary (boots.child (later_from confirms p) (later_number p i)) child_summary.second
+      → IsTwin (one_round start) (later_from confirms p) (later_number p i) child_summary.second)
+      → IsTwin (two_rounds_model start confirms) p i child_summary
+  twin_beyond p i boot child_summary seen at is twin =
+      let t = twin (second_of p i child_summary at.on_is.0 is) in
+      record { summary_is = summary_on p i 1 child_summary at.on_is.0 is t.summary_is; twins = twins_on p i 1 at.on_is.0 t.twins }
+
+  pub twins_beyond : (p : RoundNode PowerOn) (i count : ℕ) (child_summary : Both) → IsLater p i → AreSummaries start confirms (child confirms p i) child_summary
+      → AreTwinsOn (one_round start) (later_from confirms p) (later_number p i) count child_summary.second
+      → AreTwinsOn (two_rounds_model start confirms) p i count child_summary
+  twins_beyond p i count child_summary later is t = record {
+    summaries = λ j le. summary_on p i j child_summary later is (t.summaries j le);
+    twins = λ j some le. twins_on p i j later (t.twins j some le);
+  }
+
+  pub summary_below : (p : RoundNode PowerOn) (i : ℕ) (child_summary : Both) → IsLater p i → AreSummaries start confirms (child confirms p i) child_summary
+      → (one_round start).IsSummary (boots.child (later_from confirms p) (later_number p i)) child_summary.second
+  summary_below = second_of
+
+  pub later_more : (p : RoundNode PowerOn) (i j : ℕ) → IsLater p i → i + j < width confirms p → later_number p i + j < length (ops_of (later_from confirms p))
+  later_more (round_one s) i j later early = omega (arith, later, early)
+  later_more (round_two began s) i j later early = early

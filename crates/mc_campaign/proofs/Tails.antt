@@ -5,9 +5,11 @@ use Rattle.mc_boot.specs.{Outcome.{Report, ops_of, shown}, Plan.{PowerOn}, Share
 use Rattle.mc_boot.specs.{declared.outcome.BootResult.{BootResult}, declared.shared_tail.SharedTail.{SharedTail}, facts.Run.{outcome_defined}}
 use Rattle.mc_campaign.proofs.Ways.{child, child_began, first_child, later_child, same_start}
 use Rattle.mc_campaign.specs.{Rows.{end_result}, declared.rounds.Both.{Both}, facts.Listed.{end_from, report_from}, facts.Paths.{some_same}}
-use Rattle.mc_campaign.specs.{declared.rounds.ChildBoot.{ChildBoot}, inner.LastCuts.{IsLikeNode, LieIn}, inner.TwoRounds.{began_at, later_from, later_number, rounds, second_start, two_rounds_model}}
+use Rattle.mc_campaign.specs.{declared.rounds.ChildBoot.{ChildBoot}, inner.LastCuts.{IsLikeNode, LieIn}, inner.TwoRounds.{began_at, later_from, later_number, two_rounds_model}}
+use Rattle.mc_campaign.specs.Rounds.{rounds, second_start}
 use Rattle.mc_explore.specs.{Right.{judged}, declared.expectation.Expectation.{Expectation}, declared.one_round.Summary.{Summary}}
-use Rattle.mc_explore.specs.{facts.Tails.{late_index, placed_at}, facts.Totals.{totals_weigh}, inner.OneRound.{GoesOnIn, at_cut, boots, one_round}}
+use Rattle.mc_explore.specs.{facts.Tails.{late_index, placed_at}, facts.Totals.{totals_weigh}, inner.OneRound.{GoesOnIn, one_round}}
+use Rattle.mc_explore.specs.Boots.{at_cut, boots}
 use Rattle.mc_explore.specs.{inner.LastCuts.{AreLike}, inner.Table.{IsTailOf}, inner.Totals.{Totals, report_totals, totals}}
 use Rattle.mc_flash.specs.Usage.{Seen}
 use Rattle.mc_tree.specs.{Tree.{RoundNode, round_one, landed, round_two}, facts.Order.{landed-push}, facts.Rounds.{child_second}, facts.Weighed.{from_alike, path_shared}}

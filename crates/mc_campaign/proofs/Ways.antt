@@ -5,8 +5,10 @@ use Rattle.mc_tree.specs.{Tree.{RoundNode, round_one, round_two, two_rounds_chil
 use Rattle.mc_flash.specs.{Flash.{Content}, Usage.{Seen}}
 use Rattle.mc_boot.specs.{Plan.{PowerOn, again}, Restart.{confirmed_if}, facts.Run.{left_defined}, Outcome.{left_by, ops_of}, declared.boot.Boot.{Boot}}
 use Rattle.mc_walk.specs.TreeModel.{IsAt}
-use Rattle.mc_explore.specs.{inner.OneRound.{IsOf, at_cut, boots, content_or, one_round}, facts.Occurring.{at_zero}, facts.Summaries.{first_on}, declared.one_round.Summary.{Summary}}
-use Rattle.mc_campaign.specs.inner.TwoRounds.{second_start, began_at, IsLater, later_from, later_number, two_rounds_model}
+use Rattle.mc_explore.specs.{inner.OneRound.{IsOf, one_round}, facts.Occurring.{at_zero}, facts.Summaries.{first_on}, declared.one_round.Summary.{Summary}}
+use Rattle.mc_explore.specs.Boots.{at_cut, boots, content_or}
+use Rattle.mc_campaign.specs.inner.TwoRounds.{began_at, IsLater, later_from, later_number, two_rounds_model}
+use Rattle.mc_campaign.specs.Rounds.{second_start}
 use Rattle.mc_campaign.specs.declared.rounds.ChildBoot.TheVariants as child_boots
 
 module _ (confirms : Bool) where

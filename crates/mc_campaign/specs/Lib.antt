@@ -1,4 +1,5 @@
 pub mod Campaigns
+pub mod Rounds
 pub mod Texts
 pub mod Rows
 pub mod Page

@@ -1,6 +1,6 @@
 //! Campaigns, as what an explorer goes through.
 ghost use Rattle.std.specs.Prelude.{◌≡◌, ◌≤◌, true, length};
-ghost use Rattle.mc_campaign.specs.inner.TwoRounds.{cuts_along};
+ghost use Rattle.mc_campaign.specs.Rounds.{cuts_along};
 ghost use Rattle.mc_campaign.specs.inner.View.{begun_of};
 
 use crate::campaign::Campaign;

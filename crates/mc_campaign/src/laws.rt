@@ -6,7 +6,7 @@ ghost use Rattle.mc_campaign.specs.Page.{Chain, last_campaign, state_past};
 ghost use Rattle.mc_campaign.specs.Rows.{IsRest, after_key, State, ShownRow, moved_to};
 ghost use Rattle.mc_campaign.specs.Campaigns.{IsMember, Precedes};
 ghost use Rattle.mc_boot.specs.Plan.{PowerOn};
-ghost use Rattle.mc_campaign.specs.inner.TwoRounds.{IsPathOf, rounds};
+ghost use Rattle.mc_campaign.specs.Rounds.{IsPathOf, rounds};
 
 /// The campaigns that can occur are the paths of the tree of two rounds: each of at most so many cuts is that of a path of at
 /// most so many steps, and each such path is that of such a campaign. The order of campaigns is that of their paths.

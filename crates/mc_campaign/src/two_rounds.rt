@@ -25,8 +25,8 @@ impl FlashTree for TwoRounds<'_> {
     type Label = (u8, u32);
 
     ghost use Rattle.mc_tree.specs.Tree as trees;
-    ghost use Rattle.mc_explore.specs.inner.OneRound.{boots};
-    ghost use Rattle.mc_campaign.specs.inner.TwoRounds.{second_start};
+    ghost use Rattle.mc_explore.specs.Boots.{boots};
+    ghost use Rattle.mc_campaign.specs.Rounds.{second_start};
 
     ghost model = { model_of };
 
@@ -52,19 +52,31 @@ impl FlashTree for TwoRounds<'_> {
         }
     }
 
-    // Twins are of the second round alone: which boot began it is part of a node.
-    fn has_twin<F: Flash>(self, _flash: &F, _at: &ChildBoot, _child: &Both) -> bool {
-        false
+    // Twins of the first round are not looked for.
+    fn has_twin<F: Flash>(self, flash: &F, at: &ChildBoot, child: &Both) -> bool {
+        match at {
+            ChildBoot::First { .. } => false,
+            ChildBoot::Second(boot) => self.one_round.has_twin(flash, boot, &child.second),
+        }
     }
 
     fn pass_twins<F: Flash>(
         self,
-        _flash: &mut F,
-        _at: &mut ChildBoot,
-        _child: &Both,
-        _most: u32,
+        flash: &mut F,
+        at: &mut ChildBoot,
+        child: &Both,
+        most: u32,
     ) -> Result<u32, AllocError> {
-        Ok(0)
+        match *at {
+            ChildBoot::First { .. } => Ok(0),
+            ChildBoot::Second(mut boot) => {
+                let count = self
+                    .one_round
+                    .pass_twins(flash, &mut boot, &child.second, most)?;
+                *at = ChildBoot::Second(boot);
+                Ok(count)
+            }
+        }
     }
 
     fn first_child<F: Flash>(self, flash: &mut F, summary: &Both) -> Result<ChildBoot, AllocError> {
@@ -146,7 +158,8 @@ impl TwoRounds<'_> {
     ghost use Rattle.std.specs.Prelude.{ℕ, IfSome};
     ghost use Rattle.mc_boot.specs.Plan.{PowerOn};
     ghost use Rattle.mc_campaign.specs.inner.LastCuts.{LieIn};
-    ghost use Rattle.mc_campaign.specs.inner.TwoRounds.{model_of, rounds};
+    ghost use Rattle.mc_campaign.specs.inner.TwoRounds.{model_of};
+    ghost use Rattle.mc_campaign.specs.Rounds.{rounds};
     ghost use Rattle.mc_tree.specs.Tree.{RoundNode};
     ghost use Rattle.mc_walk.specs.TreeModel.{HasChild, IsChildOf};
 
@@ -222,7 +235,7 @@ impl Joining for TwoRounds<'_> {
 impl Ending for TwoRounds<'_> {
     ghost use Rattle.mc_tree.specs.Tree.{landed, round_one};
     ghost use Rattle.mc_explore.specs.inner.OneRound.{begins};
-    ghost use Rattle.mc_campaign.specs.inner.TwoRounds.{rounds};
+    ghost use Rattle.mc_campaign.specs.Rounds.{rounds};
     ghost use Rattle.mc_campaign.specs.facts.Listed.{end_from, same_end};
 
     ghost report_of = { λ t path. end_from t.confirms (landed (rounds t.confirms) (round_one (begins

@@ -11,7 +11,8 @@ use Rattle.mc_boot.specs.{Plan.{Plan, plan, PowerOn, again, power_on, powered}, 
 use Rattle.mc_boot.specs.{facts.Steps.{refused_here, step_counts, step_spends, stepped_here}, declared.boot.Boot.{Boot}, declared.outcome.Outcome.{Outcome}}
 use Rattle.mc_walk.specs.TreeModel.{AreTwinsOn, IsAt, IsChildOf, IsTwin, HasNext, ReachesNext}
 use Rattle.mc_tree.specs.inner.Weights.{AreTwins}
-use Rattle.mc_explore.specs.{facts.Tails.{shared_like}, inner.LastCuts.{AreLike, AreSame, boot_at}, inner.OneRound.{at_cut, boots, CanPass, GoesOnIn, IsOf, IsSummary, Passes, one_round}, Schedules.{EndsWith}}
+use Rattle.mc_explore.specs.{facts.Tails.{shared_like}, inner.LastCuts.{AreLike, AreSame, boot_at}, inner.OneRound.{CanPass, GoesOnIn, IsOf, IsSummary, Passes, one_round}, Schedules.{EndsWith}}
+use Rattle.mc_explore.specs.Boots.{at_cut, boots}
 use Rattle.mc_explore.specs.{declared.one_round.Summary.{Summary}, facts.Occurring.{at_is, at_zero, come_lands, lands_at}}
 
 -- Where a boot has come there, it has come on to here.

@@ -8,7 +8,8 @@ use Rattle.std.proofs.{Math.Seq.{take-append-add}, lemmas.Fmt.{decimal_injective
 use Rattle.mc_flash.specs.{Geometry.{IsLayout}, facts.Usage.{few_operations}}
 use Rattle.mc_tree.specs.{Tree.{Allowed}, facts.Lists.{at_head, in_rest}}
 use Rattle.mc_boot.specs.{Outcome.{ops_of}, facts.Bounds.{few_ops}, Plan.{PowerOn, again}}
-use Rattle.mc_explore.specs.{inner.OneRound.{at_cut, boots}, Page.{row_line, last_line}, Rows.{IsRest, row_text, State, ShownRow, moved_to, schedules}}
+use Rattle.mc_explore.specs.{Page.{row_line, last_line}, Rows.{IsRest, row_text, State, ShownRow, moved_to, schedules}}
+use Rattle.mc_explore.specs.Boots.{at_cut, boots}
 use Rattle.mc_explore.specs.{Survey.{AreLines, IsRowLine, AreRowLines, HasRows, IsOfLast, IsLastRow, Continues}, facts.Listed.{schedules_are_lawful}}
 use Rattle.mc_explore.specs.{facts.Listings.{rest_tail}, facts.Occurring.{path_of}}
 use Rattle.mc_start.specs.{Cursor.{cursor_text}, Start.{IsSchedule, schedule_text}, declared.cursor.Cursor.{Cursor}}

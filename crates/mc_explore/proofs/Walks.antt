@@ -5,7 +5,8 @@ use Rattle.mc_boot.specs.{Boot.{Progress, left_of, progress}, Outcome.{after, sh
 use Rattle.mc_explore.proofs.Onwards.{ComesOn}
 use Rattle.mc_explore.specs.{Schedules.{CanOccur, CannotOccurAt, IsReplayed}, declared.one_round.OneRound.{OneRound}}
 use Rattle.mc_explore.specs.{declared.one_round.Summary.{Summary}, facts.Following.{cost_few}, facts.Occurring.{allowed_after, landed_again, occurs_allowed}}
-use Rattle.mc_explore.specs.{inner.OneRound.{IsSummary, begins, begun_of, boots, one_round}, inner.View.{Followed, IsLoaded}}
+use Rattle.mc_explore.specs.{inner.OneRound.{IsSummary, begins, begun_of, one_round}, inner.View.{Followed, IsLoaded}}
+use Rattle.mc_explore.specs.Boots.{boots}
 use Rattle.mc_flash.specs.{Flash.{Content}, Usage.{Allows, Limits, Seen, Spent, most_operations}}
 use Rattle.mc_tree.specs.{Tree.{Allowed, landed}}
 use Rattle.mc_walk.specs.{TreeModel.{summary_cost}, Walks.{Begins, Follows, IsSame, IsThere, Walked, path_cost}}

@@ -2,6 +2,7 @@ pub mod Pages
 pub mod Explores
 pub mod Subject
 pub mod Schedules
+pub mod Boots
 pub mod Rows
 pub mod Page
 pub mod Survey

@@ -11,7 +11,9 @@ use Rattle.mc_image.specs.{declared.areas.ProtectedArea.{ProtectedArea}, declare
 use Rattle.mc_image.specs.declared.error.ImageError.TheVariants.{BadProtected, BadTlvLength, BadTlvMagic, Truncated, TruncatedBody, WrongDigest}
 use Rattle.mc_image.specs.{declared.gather.Gather.{Gather}, declared.header.Header.{Header}, declared.judge.Judge.{Judge}, declared.judge.Judged.{Judged}}
 use Rattle.mc_image.specs.{declared.judge.Sealed.{Sealed}, declared.judge.Stage.{Stage}, facts.Valid.{good_false, good_true}}
-use Rattle.mc_image.specs.inner.Judging.{HasHeader, IsBeyond, IsInStage, IsPlain, IsProtected, IsSealed, Judges, judged_or_fault, verdict}
+use Rattle.mc_image.specs.inner.Judging.{HasHeader, IsBeyond, IsInStage, IsPlain, IsProtected, IsSealed}
+use Rattle.mc_image.specs.Judging.{Judges}
+use Rattle.mc_image.specs.Verdict.{judged_or_fault, verdict}
 use Rattle.mc_image.specs.inner.Reading.{Follows, Goes, IsHeader, Scans, entries_fault, head_fault, held}
 use Rattle.sha2.specs.{Hashers.{Holds256}, declared.Sha256.{Sha256}}
 use Rattle.mc_image.specs.declared.judge.Stage.TheVariants as stages

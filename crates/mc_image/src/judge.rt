@@ -4,7 +4,9 @@ ghost use Rattle.sha2.specs.Hashers.{Holds256};
 ghost use Rattle.mc_image.specs.Image.{IsBytes, payload_end, protected_end};
 ghost use Rattle.mc_image.specs.Valid.{protected_fault};
 ghost use Rattle.mc_image.specs.inner.Reading.{held, Goes};
-ghost use Rattle.mc_image.specs.inner.Judging.{verdict, Finishes, HasHeader, IsSealed, IsPlain, Judges};
+ghost use Rattle.mc_image.specs.inner.Judging.{HasHeader, IsSealed, IsPlain};
+ghost use Rattle.mc_image.specs.Judging.{Finishes, Judges};
+ghost use Rattle.mc_image.specs.Verdict.{verdict};
 
 use crate::areas::{EntryScan, ProtectedArea, plain_total};
 use crate::gather::Gather;

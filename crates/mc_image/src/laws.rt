@@ -3,7 +3,7 @@ ghost use Rattle.std.specs.Prelude.{◌≡◌, ℕ, List, None, Some, true, leng
 ghost use Rattle.std.specs.List.{concat};
 ghost use Rattle.mc_image.specs.Image.{IsBytes, Image, Begins, image_in, image_text};
 ghost use Rattle.mc_image.specs.Valid.{first_fault, IsValid, Identity, identity, is_valid, id_of, image_fault};
-ghost use Rattle.mc_image.specs.inner.Judging.{Judges, Finishes};
+ghost use Rattle.mc_image.specs.Judging.{Judges, Finishes};
 ghost use Rattle.mc_image.specs.declared.error.ImageError.{ImageError};
 ghost use Rattle.mc_image.specs.declared.judge.Judge.{Judge};
 ghost use Rattle.mc_image.specs.declared.judge.Judged.{Judged};

@@ -1,7 +1,8 @@
 -- What a judge's answer says of what is wanted of `verify`.
 use Rattle.std.proofs.{Common.{◌≡◌, ℕ, ◌<◌, ◌≤◌, ◌^◌, List, length, Option, None, Some, Result, Ok, Err, refl, sym, ap, ◌∙◌, subst}, KnownBytes.{Keeps-refl}}
 use Rattle.std.specs.{Prelude.{IfSome, IfErr, OnOk}, Io.KnownBytes.{Appends}}
-use Rattle.mc_image.specs.{Image.{Image, image_in}, Valid.{image_fault}, inner.Judging.{judged_of, judged_or_fault, verdict}}
+use Rattle.mc_image.specs.{Image.{Image, image_in}, Valid.{image_fault}}
+use Rattle.mc_image.specs.Verdict.{judged_of, judged_or_fault, verdict}
 use Rattle.mc_image.specs.{declared.error.ImageError.{ImageError}, declared.judge.Judged.{Judged}}
 use Rattle.mc_imgtool.specs.{Engines.{Answers, Refuses, Judges}, Lines.{good_line, good_text, line_or_fault, verified}, declared.error.ToolError.{ToolError}}
 use Rattle.mc_imgtool.specs.declared.error.ToolError.TheVariants.{Image as image_error, NotZeros, SlotTooSmall, NeedsSlotSize, InputTooLong, Read, Write, Memory}

@@ -1,7 +1,8 @@
 -- What an engine answers: the text that it is to write for its input, or a refusal. Of a reader and a writer the bytes
 -- that are left and that are held are known, or nothing is.
 use Rattle.std.specs.{Prelude.{◌≡◌, ℕ, ◌<◌, ◌≤◌, List, length, Option, Result, Ok, Err, IfSome, IsErrAnd, ⊤, ◌⊎◌}, Io.KnownBytes.{Appends, Keeps}}
-use Rattle.mc_image.specs.{inner.Judging.{verdict}, declared.judge.Judged.{Judged}}
+use Rattle.mc_image.specs.declared.judge.Judged.{Judged}
+use Rattle.mc_image.specs.Verdict.{verdict}
 use Rattle.mc_imgtool.specs.declared.error.ToolError.{ToolError}
 use Rattle.mc_imgtool.specs.declared.error.ToolError.TheVariants.{Image, NotZeros, SlotTooSmall, NeedsSlotSize, InputTooLong, Read, Write, Memory}
 use Rattle.mc_output.specs.Text.{AppendsPrefix}

@@ -6,7 +6,8 @@ use Rattle.std.proofs.{Math.Seq.{drop-cons, get_or-append_seam}, lemmas.List.{ge
 use Rattle.std.proofs.lemmas.Option.{get_or_from_slice_get, slice_get-get_or}
 use Rattle.mc_boot.specs.{Boot.{HasCome, Progress}, Outcome.{Report, first_then, happening, ops_of, outcome_of, shown}, Plan.{PowerOn, again, plan}}
 use Rattle.mc_boot.specs.facts.Run.{come_count, come_ops, come_prefix}
-use Rattle.mc_explore.specs.{inner.LastCuts.{boot_at}, inner.OneRound.{at_cut, begun_of}, declared.one_round.OneRound.{OneRound}, facts.Children.{IsAtChild}}
+use Rattle.mc_explore.specs.{inner.LastCuts.{boot_at}, inner.OneRound.{begun_of}, declared.one_round.OneRound.{OneRound}, facts.Children.{IsAtChild}}
+use Rattle.mc_explore.specs.Boots.{at_cut}
 use Rattle.mc_flash.specs.{Flash.{Content, apply}, Geometry.{Geometry}, declared.op.Op.{Op}}
 use Rattle.mc_output.specs.{Text.{AppendsPrefix}, facts.Prefixes.{IsOut, out_all, out_begun, out_more, out_prefix}}
 use Rattle.mc_trace.specs.Picture.{Shown, boot_row, boot_rows, group_end, grouped_text, is_erase, row_of, rows_text, up_to_cut}

@@ -7,7 +7,7 @@ use Rattle.mc_output.specs.{facts.Prefixes.{IsOut, out_all, out_begun, out_prefi
 use Rattle.mc_trailer.specs.declared.tables.SwapType.{SwapType}
 use Rattle.mc_boot.specs.{Boot.{Progress, begun, HasCome}, Plan.{plan, PowerOn}, facts.Run.{come_at, come_count, come_prefix, come_ops}}
 use Rattle.mc_boot.specs.Outcome.{happening, ops_of}
-use Rattle.mc_explore.specs.inner.OneRound.{at_cut, content_or}
+use Rattle.mc_explore.specs.Boots.{at_cut, content_or}
 use Rattle.mc_trace.specs.{declared.trace.Span.{Span}, Trace.{operation_lines, up_to, head_line, cut_line, cut_text, last_text}}
 
 get_dropped : (ops : List Op) (n : ℕ) → slice_get (drop n ops) 0 ≡ slice_get ops n

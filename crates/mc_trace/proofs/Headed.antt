@@ -3,7 +3,8 @@ use Rattle.std.specs.Prelude.{List, None, Option, Some, [], codes, length, ℕ, 
 use Rattle.std.proofs.Common.{ap, subst, ◌∙◌}
 use Rattle.mc_boot.specs.{Outcome.{Report, ops_of, outcome_of, shown}, Plan.{PowerOn, again}}
 use Rattle.mc_explore.specs.{Schedules.{CanOccur}, declared.one_round.OneRound.{OneRound}, facts.Children.{IsAtChild}}
-use Rattle.mc_explore.specs.{declared.one_round.Summary.{Summary}, facts.Occurring.{allowed_occurs, occurs_allowed}, inner.LastCuts.{boot_at}, inner.OneRound.{at_cut, begun_of, boots}}
+use Rattle.mc_explore.specs.{declared.one_round.Summary.{Summary}, facts.Occurring.{allowed_occurs, occurs_allowed}, inner.LastCuts.{boot_at}, inner.OneRound.{begun_of}}
+use Rattle.mc_explore.specs.Boots.{at_cut, boots}
 use Rattle.mc_flash.specs.Flash.{Content}
 use Rattle.mc_trace.specs.{Picture.{boot_rows, boot_section, end_of, end_text, heading_of, heading_text, sections_text}, declared.picture_rows.Look.{Look}}
 use Rattle.mc_trace.specs.inner.Rows.{model_of}

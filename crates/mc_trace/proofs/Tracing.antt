@@ -7,7 +7,8 @@ use Rattle.mc_flash.specs.{Flash.{Content}}
 use Rattle.mc_flash.specs.Usage.{Allows, Seen, LeaveRoom, plus, times, Counts, IsWithin, limits_for, most_operations, most_saved, no_counts}
 use Rattle.mc_trailer.specs.declared.tables.Rules.{Rules}
 use Rattle.mc_start.specs.facts.Room.{limits_are}
-use Rattle.mc_explore.specs.inner.OneRound.{most_of, at_cut, content_or}
+use Rattle.mc_explore.specs.inner.OneRound.{most_of}
+use Rattle.mc_explore.specs.Boots.{at_cut, content_or}
 use Rattle.mc_output.specs.{facts.Prefixes.{IsOut, out_all, out_begun, out_prefix, out_more}, Text.{AppendsPrefix}}
 use Rattle.mc_boot.specs.{Outcome.{Report, outcome_of, outcome_text, after, at, ops_of}, Plan.{PowerOn, again, power_on, powered}}
 use Rattle.mc_trace.specs.{Trace.{RefusesTrace, boots_text, cut_text, last_text, trace_text}, declared.trace.Span.{Span}}

@@ -4,7 +4,8 @@ use Rattle.mc_flash.specs.{Flash.{Content, sectors_of}, Geometry.{Geometry}, dec
 use Rattle.mc_flash.specs.declared.op.Op.TheVariants as ops
 use Rattle.mc_flash.specs.{declared.op.Slot.{Slot}, declared.op.Slot.TheVariants.{Primary, Secondary}}
 use Rattle.mc_boot.specs.{Outcome.{Report, ops_of, outcome_of}, Plan.{PowerOn, again}}
-use Rattle.mc_explore.specs.{inner.OneRound.{at_cut}, Census.{IsCensus, census_text}, Right.{AreRights, Rights, is_right, rights_text}}
+use Rattle.mc_explore.specs.{Census.{IsCensus, census_text}, Right.{AreRights, Rights, is_right, rights_text}}
+use Rattle.mc_explore.specs.Boots.{at_cut}
 use Rattle.mc_explore.specs.{Rows.{outcome_text, slots_text, subject}, declared.expectation.Expectation.{Expectation}}
 use Rattle.mc_trace.specs.{Trace.{operation_text}, declared.picture_rows.Look.{Look}, Sectors.{cell_of, cell_word, letter, sector_of}}
 use Rattle.mc_trace.specs.declared.cells.Cell.{Cell}

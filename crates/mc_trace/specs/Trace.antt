@@ -2,7 +2,8 @@
 use Rattle.std.specs.Prelude.{Bool, List, None, Option, Some, [], codes, decimal, if◌then◌else◌, nat_le, slice_get, take, ℕ, ⊤, ◌&&◌, ◌++◌, ◌+◌, ◌-◌, ◌/◌, ◌∷◌, ◌≡◌}
 use Rattle.hex.specs.Hex.{encode_lower}
 use Rattle.mc_boot.specs.{Outcome.{Report, outcome_of, outcome_text}, Plan.{PowerOn, plan, power_on}}
-use Rattle.mc_explore.specs.{inner.OneRound.{at_cut}, Schedules.{CannotOccurAt}, declared.replays.ReplayError.{ReplayError}}
+use Rattle.mc_explore.specs.{Schedules.{CannotOccurAt}, declared.replays.ReplayError.{ReplayError}}
+use Rattle.mc_explore.specs.Boots.{at_cut}
 use Rattle.mc_flash.specs.{Flash.{Content, apply, size_of, slot_text}, Geometry.{Geometry, trailer_bytes}, declared.op.Op.{Op}, declared.op.Slot.{Slot}}
 use Rattle.mc_flash.specs.declared.op.Slot.TheVariants.{Primary, Secondary}
 use Rattle.mc_trace.specs.{declared.error.TraceError.{TraceError}, declared.operation.Part.{Part}, declared.trace.Span.{Span}}

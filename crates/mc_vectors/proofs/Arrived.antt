@@ -4,7 +4,8 @@ use Rattle.std.proofs.{Common.{List, ap, arith, length, refl, subst, sym, â„•, â
 use Rattle.mc_boot.specs.{Outcome.{after, ops_of}, Plan.{PowerOn, again}, declared.boot.Boot.{Boot}, declared.shared_tail.SharedTail.{SharedTail}}
 use Rattle.mc_explore.specs.{Schedules.{CanOccur}, declared.one_round.OneRound.{OneRound}, declared.one_round.Summary.{Summary}}
 use Rattle.mc_explore.specs.{facts.Children.{IsAtChild, child_here, listed_there}, facts.Occurring.{occurs_allowed}}
-use Rattle.mc_explore.specs.inner.OneRound.{GoesOnIn, begins, begun_of, boots, one_round}
+use Rattle.mc_explore.specs.inner.OneRound.{GoesOnIn, begins, begun_of, one_round}
+use Rattle.mc_explore.specs.Boots.{boots}
 use Rattle.mc_flash.specs.{Flash.{Content}, Usage.{Seen}}
 use Rattle.mc_tree.specs.{Tree.{Allowed, IsMember, landed}, facts.Order.{allowed_prefix}}
 use Rattle.mc_walk.specs.{TreeModel.{IsChildOf, TreeModel}, Walks.{Begins, Follows, IsLastStep, IsPath, IsSame, IsThere, Walked}}

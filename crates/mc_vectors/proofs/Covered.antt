@@ -3,7 +3,8 @@ use Rattle.std.specs.Prelude.{All, Contains, Some, is_some, false, true, Bool}
 use Rattle.std.proofs.Common.{List, [], append-nil, ap, arith, inl, inr, length, length-append, refl, subst, sym, ℕ, ◌++◌, ◌+◌, ◌<◌, ◌∙◌, ◌∷◌, ◌≡◌, ◌≤◌, ◌⊎◌, append_assoc}
 use Rattle.std.proofs.{lemmas.List.{take_all}, lemmas.List.Elements.{All-contains}}
 use Rattle.mc_boot.specs.{Outcome.{after, ops_of}, Plan.{PowerOn, again}}
-use Rattle.mc_explore.specs.{facts.Occurring.{allowed_after, landed_again, occurs_allowed}, inner.OneRound.{at_cut, boots}}
+use Rattle.mc_explore.specs.facts.Occurring.{allowed_after, landed_again, occurs_allowed}
+use Rattle.mc_explore.specs.Boots.{at_cut, boots}
 use Rattle.mc_flash.specs.Flash.{Content}
 use Rattle.mc_tree.specs.{Tree.{Allowed, landed}, facts.Order.{allowed-push, landed-push}}
 use Rattle.mc_vectors.specs.{Cases.{AnyCuts, AreCases, AtMost, ComesBefore, HasNoCollision, IsNoLater}, declared.case.Case.{Case}}

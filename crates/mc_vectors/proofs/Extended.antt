@@ -5,7 +5,7 @@ use Rattle.std.proofs.{lemmas.Bool.{cases_lt}, lemmas.List.{get_or_append_left, 
 use Rattle.std.proofs.lemmas.List.Elements.{All-more, All-weaker, Contains-append_left, Contains-get_or, Contains-push, Contains-push_cases}
 use Rattle.std.proofs.lemmas.List.Quantifiers.{all_pairs_push}
 use Rattle.mc_boot.specs.{Outcome.{after, ops_of}, Plan.{PowerOn, again}}
-use Rattle.mc_explore.specs.inner.OneRound.{at_cut}
+use Rattle.mc_explore.specs.Boots.{at_cut}
 use Rattle.mc_flash.specs.Flash.{Content}
 use Rattle.mc_vectors.specs.{Cases.{ComesBefore, IsCase, flash_digest}, declared.case.Case.{Case}}
 use Rattle.mc_vectors.specs.inner.Searching.{HasFound, IsBelow, IsDone, IsExpanding, IsFound, IsJoined, IsSearch}

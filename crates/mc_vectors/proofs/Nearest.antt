@@ -4,7 +4,8 @@ use Rattle.std.proofs.{Common.{List, [], ap, arith, inl, inr, length, refl, subs
 use Rattle.std.proofs.lemmas.List.{get_or-take, get_or_default, length-take, take-append-drop, take_all, take_more}
 use Rattle.std.proofs.lemmas.List.Elements.{Contains-append_left, Contains-push, Contains-push_cases}
 use Rattle.mc_boot.specs.{Outcome.{after}, Plan.{PowerOn}}
-use Rattle.mc_explore.specs.{Schedules.{CanOccur, CannotOccurAt}, facts.Occurring.{allowed_occurs, occurs_allowed}, inner.OneRound.{boots}}
+use Rattle.mc_explore.specs.{Schedules.{CanOccur, CannotOccurAt}, facts.Occurring.{allowed_occurs, occurs_allowed}}
+use Rattle.mc_explore.specs.Boots.{boots}
 use Rattle.mc_flash.specs.Flash.{Content}
 use Rattle.mc_tree.specs.{facts.Lists.{no_element}, facts.Order.{allowed_prefix}}
 use Rattle.mc_vectors.specs.{Cases.{AreCases, ComesBefore, IsNoLater}, Locating.{IsNearest, IsNoFarther, distance}, declared.case.Case.{Case}}

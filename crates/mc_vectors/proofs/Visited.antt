@@ -3,7 +3,8 @@ use Rattle.std.specs.Prelude.{Contains, Err, IfOk, Ok, Result, Some, is_some, tr
 use Rattle.std.proofs.{Common.{List, [], ap, arith, length, length-append, subst, sym, ℕ, ◌++◌, ◌+◌, ◌<◌, ◌∙◌, ◌∷◌, ◌≡◌, ◌≢◌}, lemmas.List.{same_from_push}}
 use Rattle.mc_boot.specs.{Outcome.{after, left_by, ops_of, outcome_of, shown}, Plan.{PowerOn, again}, SharedTail.{index_in_parent}}
 use Rattle.mc_explore.specs.{facts.Occurring.{allowed_after, occurs_allowed}, facts.Tails.{placed_at}}
-use Rattle.mc_explore.specs.{inner.OneRound.{GoesOnIn, at_cut, begun_of, boots, one_round}, declared.one_round.OneRound.{OneRound}}
+use Rattle.mc_explore.specs.{inner.OneRound.{GoesOnIn, begun_of, one_round}, declared.one_round.OneRound.{OneRound}}
+use Rattle.mc_explore.specs.Boots.{at_cut, boots}
 use Rattle.mc_explore.specs.declared.one_round.Summary.{Summary}
 use Rattle.mc_flash.specs.Flash.{Content}
 use Rattle.mc_tree.specs.{facts.Order.{allowed-last, landed-push}}

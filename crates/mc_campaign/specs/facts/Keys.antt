@@ -9,7 +9,8 @@ use Rattle.mc_start.specs.{Start.{on_last}, facts.Counting.{on_last-twice}, fact
 use Rattle.mc_campaign.specs.facts.Cuts.{number_later}
 use Rattle.mc_walk.specs.Walks.{IsClear}
 use Rattle.mc_explore.specs.inner.Exploring.{AreKeys, LoadsFor}
-use Rattle.mc_campaign.specs.{inner.TwoRounds.{cuts_along, rounds, two_rounds_model}, Rows.{ShownRow, most_for_row, campaigns}}
+use Rattle.mc_campaign.specs.{inner.TwoRounds.{two_rounds_model}, Rows.{ShownRow, most_for_row, campaigns}}
+use Rattle.mc_campaign.specs.Rounds.{cuts_along, rounds}
 use Rattle.mc_campaign.specs.facts.Paths.{listed_along, path_of, same_order}
 
 -- A boot makes some operation at most.

@@ -7,7 +7,8 @@ use Rattle.mc_tree.specs.{facts.Existence.{AreRows, all_from, all_rest}, facts.O
 use Rattle.mc_flash.specs.Flash.{Content}
 use Rattle.mc_boot.specs.{Restart.{confirmed_if}, Outcome.{Report, outcome_of, left_by}, facts.Run.{outcome_defined}, Plan.{PowerOn, again}}
 use Rattle.mc_explore.specs.{Pages.{IsLawful}, Schedules.{IsReplayed}, Subject.{are_lawful, rows_of}}
-use Rattle.mc_campaign.specs.{inner.TwoRounds.{began_at, cuts_along, later_from, rounds}, Campaigns.{Precedes, in_round, AreReplayed}}
+use Rattle.mc_campaign.specs.{inner.TwoRounds.{began_at, later_from}, Campaigns.{Precedes, in_round, AreReplayed}}
+use Rattle.mc_campaign.specs.Rounds.{cuts_along, rounds}
 use Rattle.mc_campaign.specs.Rows.{IsRest, IsRow, campaigns, State, ShownRow, HasOutcomes, at_start, end_by}
 use Rattle.mc_campaign.specs.facts.Paths.{listed_along, path_of, replayed_at, same_order, some_same}
 

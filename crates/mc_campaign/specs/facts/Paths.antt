@@ -6,10 +6,12 @@ use Rattle.mc_tree.specs.Tree as tree
 use Rattle.mc_tree.specs.facts.Rounds.{both_allowed, both_first, both_labels, both_length, both_second, first_of, pairs_precede, parts, paths_precede, second_of}
 use Rattle.mc_flash.specs.Flash.{Content}
 use Rattle.mc_boot.specs.{Restart.{confirmed_if}, Outcome.{Report, outcome_of, after, left_by}, facts.Run.{left_defined}}
-use Rattle.mc_explore.specs.{inner.OneRound.{boots, content_or}, facts.Occurring.{allowed_after, allowed_occurs, landed_again, occurs_allowed}, Schedules.{IsReplayed}}
+use Rattle.mc_explore.specs.{facts.Occurring.{allowed_after, allowed_occurs, landed_again, occurs_allowed}, Schedules.{IsReplayed}}
+use Rattle.mc_explore.specs.Boots.{boots, content_or}
 use Rattle.mc_explore.specs.Schedules as schedules
 use Rattle.mc_campaign.specs.Campaigns.{AreReplayed, CanOccur, IsMember, Precedes, in_round}
-use Rattle.mc_campaign.specs.inner.TwoRounds.{IsPathOf, began_at, cuts_along, later_from, rounds, second_start}
+use Rattle.mc_campaign.specs.inner.TwoRounds.{began_at, later_from}
+use Rattle.mc_campaign.specs.Rounds.{IsPathOf, cuts_along, rounds, second_start}
 use Rattle.mc_campaign.specs.facts.Cuts.{all_first, all_second, by_rounds, ordered, pairs_length}
 use Rattle.mc_boot.specs.Plan.{PowerOn, again}
 

@@ -2,7 +2,8 @@
 use Rattle.std.proofs.Common.{Bool, List, ap, sym, ℕ, ◌∙◌}
 use Rattle.mc_boot.specs.{Outcome.{outcome_of}, Plan.{PowerOn}}
 use Rattle.mc_campaign.specs.{declared.last_cuts.Ends.{Ends}, declared.rounds.TwoRounds.{TwoRounds}}
-use Rattle.mc_campaign.specs.inner.{LastCuts.{AreLikePaths, EndSo, EndSoAt, IsLikeNode, node_of}, TwoRounds.{second_start}}
+use Rattle.mc_campaign.specs.inner.LastCuts.{AreLikePaths, EndSo, EndSoAt, IsLikeNode, node_of}
+use Rattle.mc_campaign.specs.Rounds.{second_start}
 use Rattle.mc_tree.specs.Tree.{RoundNode, round_one, round_two}
 
 end_alike : (confirms : Bool) (p q : RoundNode PowerOn) (ends : Ends) → IsLikeNode p q → EndSo confirms p ends → EndSo confirms q ends

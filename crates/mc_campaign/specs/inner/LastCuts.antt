@@ -2,7 +2,8 @@
 use Rattle.std.specs.Prelude.{Bool, List, Some, if◌then◌else◌, length, min, nat_lt, ℕ, ◌+◌, ◌-◌, ◌<◌, ◌≡◌, ◌≤◌}
 use Rattle.mc_boot.specs.{Outcome.{ops_of, outcome_of, shown}, Plan.{PowerOn}, SharedTail.{index_in_parent}, declared.outcome.Outcome.{Outcome}, declared.shared_tail.SharedTail.{SharedTail}}
 use Rattle.mc_campaign.specs.{declared.last_cuts.Ahead.{Ahead}, declared.last_cuts.Ends.{Ends}, declared.rounds.TwoRounds.{TwoRounds}}
-use Rattle.mc_campaign.specs.inner.TwoRounds.{began_at, cuts_along, model_of, rounds, second_start}
+use Rattle.mc_campaign.specs.inner.TwoRounds.{began_at, model_of}
+use Rattle.mc_campaign.specs.Rounds.{cuts_along, rounds, second_start}
 use Rattle.mc_explore.specs.{declared.at_cuts.AtCuts.{AtCuts}, inner.LastCuts.{AreLastCuts}, inner.OneRound.{begins}}
 use Rattle.mc_tree.specs.Tree.{RoundNode, landed, round_one, round_two}
 

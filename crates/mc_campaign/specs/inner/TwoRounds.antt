@@ -4,33 +4,15 @@ use Rattle.std.specs.Prelude.{Bool, List, length, ℕ, ◌-◌, ◌<◌, ◌≡�
 use Rattle.mc_boot.specs.{Boot.{left_of, progress}, Outcome.{left_by, ops_of}, Plan.{PowerOn, again}, Restart.{confirmed_if, one_write}}
 use Rattle.mc_boot.specs.declared.boot.Boot.{Boot}
 use Rattle.mc_campaign.specs.{declared.campaign.Round.{Round}, declared.rounds.Both.{Both}, declared.rounds.ChildBoot.{ChildBoot}, declared.rounds.TwoRounds.{TwoRounds}}
-use Rattle.mc_explore.specs.{declared.one_round.Summary.{Summary}, inner.OneRound.{begins, boots, content_or, most_of, one_round}}
+use Rattle.mc_explore.specs.{declared.one_round.Summary.{Summary}, inner.OneRound.{begins, most_of, one_round}}
+use Rattle.mc_explore.specs.Boots.{boots, content_or}
 use Rattle.mc_flash.specs.Usage.{Counts, LeaveRoom, no_counts, plus}
 use Rattle.mc_tree.specs.{Tree.{RoundNode, Tree, round_one, labels, round_two, two_rounds}, facts.Rounds.{child_second}}
 use Rattle.mc_walk.specs.TreeModel.{TreeModel}
 use Rattle.mc_campaign.specs.declared.campaign.Round.TheVariants as rounds_of
 use Rattle.mc_tree.specs.Tree as tree
 use Rattle.mc_campaign.specs.declared.rounds.ChildBoot.TheVariants as child_boots
-
--- The tree of two rounds of boots that are cut.
-
--- Where the second round begins if the uncut boot from x ends the first.
-unfoldable pub second_start : Bool → PowerOn → PowerOn
-second_start confirms x = again x (confirmed_if confirms x.geometry (content_or x.content (left_by x)))
-
--- A boot of the first round can be cut before each operation that it makes uncut, and so can then the one that begins the
--- second round after it.
-abbrev pub rounds : Bool → Tree (RoundNode PowerOn)
-rounds confirms = two_rounds boots (second_start confirms)
-
--- The cuts along a path, each with its round.
-abbrev pub cuts_along : Bool → PowerOn → List ℕ → List (ℕ × ℕ)
-cuts_along confirms x path = labels boots (second_start confirms) (round_one x) path
-
--- A path of at most so many steps, and the campaign of the cuts along it.
-pub record IsPathOf (x : PowerOn) (confirms : Bool) (bound : ℕ) (path : List ℕ) (c : List (ℕ × ℕ)) : Type 0 where
-  pub member : tree.IsMember (rounds confirms) (round_one x) bound path
-  pub cuts_are : cuts_along confirms x path ≡ c
+use Rattle.mc_campaign.specs.Rounds.{rounds, second_start}
 
 -- The tree of two rounds of boots, as a walk goes through it.
 

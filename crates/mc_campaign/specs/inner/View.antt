@@ -1,8 +1,10 @@
 -- A walk through two rounds, along the path of a campaign.
 use Rattle.std.specs.Prelude.{Bool, List, Option, Some, false, true, ℕ, ◌<◌, ◌↔◌, ◌≡◌}
 use Rattle.mc_boot.specs.Plan.{PowerOn}
-use Rattle.mc_campaign.specs.{Campaigns.{IsMember}, declared.rounds.TwoRounds.{TwoRounds}, inner.TwoRounds.{IsPathOf, model_of, rounds, second_start}}
-use Rattle.mc_explore.specs.inner.OneRound.{begins, boots}
+use Rattle.mc_campaign.specs.{Campaigns.{IsMember}, declared.rounds.TwoRounds.{TwoRounds}, inner.TwoRounds.{model_of}}
+use Rattle.mc_campaign.specs.Rounds.{IsPathOf, rounds, second_start}
+use Rattle.mc_explore.specs.inner.OneRound.{begins}
+use Rattle.mc_explore.specs.Boots.{boots}
 use Rattle.mc_tree.specs.Tree.{RoundNode, label}
 use Rattle.mc_walk.specs.Walks.{IsPath, IsSame, Walked}
 

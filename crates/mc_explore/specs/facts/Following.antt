@@ -2,7 +2,8 @@
 use Rattle.std.proofs.{Common.{ap, arith, subst, sym, ◌∙◌}, Math.Nat.{mul-le-mul_right}, lemmas.List.{length-take-le}}
 use Rattle.std.specs.Prelude.{Bool, List, [], false, length, refl, suc, take, true, ℕ, ◌*◌, ◌++◌, ◌+◌, ◌∷◌, ◌≡◌, ◌≤◌}
 use Rattle.mc_boot.specs.{Outcome.{ops_of}, Plan.{PowerOn, again}, facts.Bounds.{few_ops}}
-use Rattle.mc_explore.specs.{Rows.{subject}, facts.Occurring.{path_of}, inner.Exploring.{FollowsKey, IsCheapFor}, inner.OneRound.{IsOf, at_cut, boots, one_round}}
+use Rattle.mc_explore.specs.{Rows.{subject}, facts.Occurring.{path_of}, inner.Exploring.{FollowsKey, IsCheapFor}, inner.OneRound.{IsOf, one_round}}
+use Rattle.mc_explore.specs.Boots.{at_cut, boots}
 use Rattle.mc_flash.specs.{Geometry.{IsLayout}, Usage.{Spent, most_operations}}
 use Rattle.mc_tree.specs.{Tree.{Allowed}, facts.Order.{allowed_prefix}}
 use Rattle.mc_walk.specs.Walks.{Follows, Walked, path_cost}

@@ -5,7 +5,8 @@ use Rattle.mc_boot.specs.Plan.{PowerOn}
 use Rattle.mc_flash.specs.Usage.{Seen, Usage, most_operations, most_saved}
 use Rattle.mc_start.specs.{Start.{on_last}, facts.Counting.{on_last-twice}, facts.Room.{limits_are}}
 use Rattle.mc_walk.specs.Walks.{IsClear}
-use Rattle.mc_explore.specs.{inner.OneRound.{boots, one_round}, Rows.{ShownRow, most_for_row, subject}}
+use Rattle.mc_explore.specs.{inner.OneRound.{one_round}, Rows.{ShownRow, most_for_row, subject}}
+use Rattle.mc_explore.specs.Boots.{boots}
 use Rattle.mc_explore.specs.{facts.Occurring.{member_of, path_of}, inner.Exploring.{AreKeys, LoadsFor}}
 
 -- A row whose last cut is counted up by so much, and by more.

@@ -5,7 +5,8 @@ use Rattle.mc_boot.specs.{facts.Run.{outcome_defined}, Outcome.{Report, outcome_
 use Rattle.mc_tree.specs.Tree.{landed, Allowed, Precedes}
 use Rattle.mc_tree.specs.facts.Existence as existence
 use Rattle.mc_tree.specs.{facts.Existence.{AreRows, all_from, all_rest}, facts.Order.{paths_in_order}}
-use Rattle.mc_explore.specs.{inner.OneRound.{boots}, Pages.{IsLawful}}
+use Rattle.mc_explore.specs.Pages.{IsLawful}
+use Rattle.mc_explore.specs.Boots.{boots}
 use Rattle.mc_explore.specs.{Rows.{IsRow, IsRest, schedules, subject, State, ShownRow, HasOutcome, at_start, outcome_after}, Subject.{are_lawful}}
 use Rattle.mc_explore.specs.facts.Occurring.{allowed_after, landed_again, member_of, path_of}
 use Rattle.mc_boot.specs.Plan.{PowerOn, again}

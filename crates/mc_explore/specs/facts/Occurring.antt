@@ -7,7 +7,7 @@ use Rattle.mc_boot.specs.facts.Run.{at_defined, come_begun, come_at}
 use Rattle.mc_explore.specs.Schedules.{CanOccur, IsMember}
 use Rattle.mc_tree.specs.Tree.{landed, Allowed}
 use Rattle.mc_tree.specs.Tree as tree
-use Rattle.mc_explore.specs.inner.OneRound.{content_or, at_cut, boots}
+use Rattle.mc_explore.specs.Boots.{content_or, at_cut, boots}
 
 some_of : (s : Content) (o : Option Content) (t : Content) → o ≡ Some t → o ≡ Some (content_or s o)
 some_of s o t e = e ∙ ap (λ (z : Option Content). Some (content_or s z)) (sym e)

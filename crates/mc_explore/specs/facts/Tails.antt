@@ -1,7 +1,8 @@
 -- Where the flashes after a cut lie among those of the boot that was cut, as nodes of the tree.
 use Rattle.std.proofs.Common.{List, [], ap, arith, length, sym, ◌++◌, ◌∷◌, ℕ, ◌+◌, ◌<◌, ◌∙◌, ◌≡◌, ◌≤◌}
 use Rattle.mc_boot.specs.{Outcome.{ops_of, outcome_of}, Plan.{PowerOn, again}, SharedTail.{IsSharedTail, index_in_parent}, declared.outcome.Outcome.{Outcome}, declared.shared_tail.SharedTail.{SharedTail}}
-use Rattle.mc_explore.specs.{facts.Occurring.{at_is, lands_at}, inner.LastCuts.{AreLike, AreSame, HasOutcomeAt, boot_at}, inner.OneRound.{at_cut, boots, one_round}}
+use Rattle.mc_explore.specs.{facts.Occurring.{at_is, lands_at}, inner.LastCuts.{AreLike, AreSame, HasOutcomeAt, boot_at}, inner.OneRound.{one_round}}
+use Rattle.mc_explore.specs.Boots.{at_cut, boots}
 use Rattle.mc_flash.specs.Flash.{Content}
 use Rattle.mc_tree.specs.{facts.Order.{landed-push}, inner.Weights.{IsShared, Weighing}}
 

@@ -1,7 +1,8 @@
 -- The rows of the longest paths: what is told after their last steps is found among what is told of the children of another node.
 use Rattle.std.specs.Prelude.{length, slice_get, ◌-◌, IfSome, List, None, Option, Some, [], ℕ, ◌++◌, ◌+◌, ◌<◌, ◌^◌, ◌∷◌, ◌≡◌, ◌≤◌, ◌⊎◌}
 use Rattle.mc_boot.specs.{Outcome.{outcome_of, shown}, Plan.{PowerOn}, SharedTail.{index_in_parent}, declared.outcome.Outcome.{Outcome}, declared.shared_tail.SharedTail.{SharedTail}}
-use Rattle.mc_explore.specs.{declared.at_cuts.AtCuts.{AtCuts}, declared.at_cuts.Joined.{Joined}, declared.run.Run.{Run}, inner.OneRound.{boots}, inner.Runs.{AreOf, IsIn}}
+use Rattle.mc_explore.specs.{declared.at_cuts.AtCuts.{AtCuts}, declared.at_cuts.Joined.{Joined}, declared.run.Run.{Run}, inner.Runs.{AreOf, IsIn}}
+use Rattle.mc_explore.specs.Boots.{boots}
 use Rattle.mc_tree.specs.Tree.{landed}
 use Rattle.mc_walk.specs.TreeModel.{TreeModel}
 

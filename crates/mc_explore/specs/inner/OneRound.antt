@@ -9,21 +9,8 @@ use Rattle.mc_flash.specs.Flash.{Content, IsSized}
 use Rattle.mc_flash.specs.Usage.{Allows, Counts, Keeps, LeaveRoom, Seen, most_operations, most_saved, no_counts, plus}
 use Rattle.mc_start.specs.Start as starts
 use Rattle.mc_tree.specs.Tree.{Tree}
+use Rattle.mc_explore.specs.Boots.{at_cut, boots}
 use Rattle.mc_walk.specs.{TreeModel.{IsAt, TreeModel}, Walks.{Walked}}
-
--- The tree of boots that are cut. A cut that can't occur is that of no child, and of it the tree says nothing.
-
-abbrev pub content_or : Content → Option Content → Content
-content_or s None = s
-content_or s (Some t) = t
-
--- The flash after the first c operations of the uncut boot.
-unfoldable pub at_cut : PowerOn → ℕ → Content
-at_cut x c = content_or x.content (at x c)
-
--- A node is what a boot begins with. That boot can be cut before each operation that it makes uncut, and the next one begins there.
-abbrev pub boots : Tree PowerOn
-boots = record { width = λ x. length (ops_of x); child = λ x c. again x (at_cut x c) }
 
 -- The contents at the cuts of a schedule.
 abbrev pub cuts : PowerOn → List ℕ → List Content

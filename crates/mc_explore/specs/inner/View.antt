@@ -1,7 +1,8 @@
 -- Walks from a start.
 use Rattle.std.specs.Prelude.{Bool, IfSome, List, Option, false, true, ℕ, ◌*◌, ◌+◌, ◌≡◌, ◌≤◌}
 use Rattle.mc_boot.specs.Plan.{PowerOn}
-use Rattle.mc_explore.specs.{declared.one_round.OneRound.{OneRound}, inner.OneRound.{begins, begun_of, boots, one_round}}
+use Rattle.mc_explore.specs.{declared.one_round.OneRound.{OneRound}, inner.OneRound.{begins, begun_of, one_round}}
+use Rattle.mc_explore.specs.Boots.{boots}
 use Rattle.mc_explore.specs.inner.Exploring as loading
 use Rattle.mc_flash.specs.Usage.{most_operations}
 use Rattle.mc_start.specs.Start.{start_digest}

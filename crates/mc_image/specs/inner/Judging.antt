@@ -1,27 +1,13 @@
--- What a judge says of the bytes that it was fed, and where it stands in them.
+-- Where a judge stands in the bytes that it was fed.
 use Rattle.std.specs.Prelude.{Err, List, None, Ok, Option, Result, Some, drop, length, ℕ, ◌++◌, ◌+◌, ◌<◌, ◌≡◌, ◌≤◌}
 use Rattle.mc_image.specs.Image.{Image, IsBytes, digest_of, image_in, image_text, payload_end, protected_end, u16_at}
 use Rattle.mc_image.specs.{Valid.{header_fault, image_fault, protected_fault}, declared.areas.ProtectedArea.{ProtectedArea}}
 use Rattle.mc_image.specs.{declared.areas.EntryScan.{EntryScan}, declared.error.ImageError.{ImageError}, declared.header.Header.{Header}}
 use Rattle.mc_image.specs.{declared.judge.Judge.{Judge}, declared.judge.Judged.{Judged}, declared.judge.Sealed.{Sealed}, declared.judge.Stage.{Stage}}
 use Rattle.mc_image.specs.inner.Reading.{Follows, IsHeader, Scans, head_fault, held}
+use Rattle.mc_image.specs.Verdict.{verdict}
 use Rattle.sha2.specs.{Hashers.{Holds256}, Sha256.{sha256}, declared.Sha256.{Sha256}}
 use Rattle.mc_image.specs.declared.judge.Stage.TheVariants as stages
-
--- what is known of a valid image
-abbrev pub judged_of : Image → Judged
-judged_of v = record { version = v.version; size = length (image_text v); digest = digest_of v }
-
--- the first fault, or what is known of the image
-abbrev pub judged_or_fault : Image → Option ImageError → Result Judged ImageError
-judged_or_fault v None = Ok (judged_of v)
-judged_or_fault v (Some e) = Err e
-
--- the answer for some bytes: the first of all faults, the wrong digest the last, or what is known of the image at their start
-unfoldable pub verdict : List ℕ → Result Judged ImageError
-verdict bytes = judged_or_fault (image_in bytes) (image_fault bytes)
-
--- ---- how far a judge has come
 
 -- the fields of the header are there, without a fault
 pub record HasHeader (h : Header) (bytes : List ℕ) : Type 0 where
@@ -73,12 +59,3 @@ IsInStage (stages.PlainHead sealed head) hasher bytes = IsBeyond sealed bytes (�
 IsInStage (stages.Plain sealed total left scan) hasher bytes = (0 < left) × IsBeyond sealed bytes (IsPlain total left scan)
 -- the answer is known, whatever follows
 IsInStage (stages.Over answer) hasher bytes = (more : List ℕ) → IsBytes (bytes ++ more) → verdict (bytes ++ more) ≡ answer
-
--- a judge was fed these bytes
-pub record Judges (judge : Judge) (fed : List ℕ) : Type 0 where
-  pub bytes : IsBytes fed
-  pub stage : IsInStage judge.stage judge.hasher fed
-
--- what a judge answers of whatever bytes it was fed
-abbrev pub Finishes : Judge → Result Judged ImageError → Type 0
-Finishes judge answer = (fed : List ℕ) → Judges judge fed → answer ≡ verdict fed

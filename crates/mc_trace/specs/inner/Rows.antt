@@ -1,7 +1,8 @@
 -- The rows of a picture as the walk gives them.
 use Rattle.std.specs.Prelude.{List, None, Option, Some, [], length, slice_get, true, ℕ, ◌++◌, ◌+◌, ◌∷◌, ◌≡◌, ◌≤◌}
 use Rattle.mc_boot.specs.{Outcome.{ops_of, outcome_of, shown}, Plan.{PowerOn, again}, declared.boot.Boot.{Boot}}
-use Rattle.mc_explore.specs.{declared.one_round.OneRound.{OneRound}, declared.one_round.Summary.{Summary}, inner.LastCuts.{boot_at}, inner.OneRound.{at_cut, begins, begun_of, one_round}}
+use Rattle.mc_explore.specs.{declared.one_round.OneRound.{OneRound}, declared.one_round.Summary.{Summary}, inner.LastCuts.{boot_at}, inner.OneRound.{begins, begun_of, one_round}}
+use Rattle.mc_explore.specs.Boots.{at_cut}
 use Rattle.mc_walk.specs.{TreeModel.{TreeModel}, Walks.{IsPath, Walked}}
 use Rattle.mc_flash.specs.Flash.{Content}
 use Rattle.mc_trace.specs.{Picture.{Shown, is_target}, declared.picture_rows.Row.{Row}}

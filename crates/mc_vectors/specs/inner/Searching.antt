@@ -2,7 +2,8 @@
 use Rattle.std.specs.Prelude.{All, AllPairs, Contains, List, Some, [], false, get_or, length, take, true, ℕ, ◌++◌, ◌+◌, ◌<◌, ◌∷◌, ◌≡◌, ◌≢◌, ◌≤◌}
 use Rattle.std.specs.{BTreeSet.{BTreeSet, contains}, Cmp.Lexicographic.{slice_cmp}, Ordering.{nat_cmp}}
 use Rattle.mc_boot.specs.{Outcome.{after, ops_of}, Plan.{PowerOn, again}, declared.shared_tail.SharedTail.{SharedTail}}
-use Rattle.mc_explore.specs.{declared.one_round.OneRound.{OneRound}, inner.OneRound.{GoesOnIn, at_cut, begun_of, one_round}}
+use Rattle.mc_explore.specs.{declared.one_round.OneRound.{OneRound}, inner.OneRound.{GoesOnIn, begun_of, one_round}}
+use Rattle.mc_explore.specs.Boots.{at_cut}
 use Rattle.mc_flash.specs.Flash.{Content}
 use Rattle.mc_walk.specs.Walks.{IsPath, Walked}
 use Rattle.mc_vectors.specs.{Cases.{ComesBefore, IsCase, IsNoLater, flash_digest}, declared.case.Case.{Case}, declared.search.Search.{Search}}

@@ -1,8 +1,9 @@
 use Rattle.std.proofs.Common.{ℕ, ◌<◌, List, [], ◌∷◌, ◌++◌, length, take, drop, sym, ap, subst, ◌∙◌, arith, ◌+◌, ◌≡◌}
 use Rattle.std.proofs.lemmas.List.{length-take-le, take-append-drop}
 use Rattle.mc_tree.specs.Tree.{round_one}
-use Rattle.mc_explore.specs.inner.OneRound.{boots}
-use Rattle.mc_campaign.specs.{inner.TwoRounds.{cuts_along, second_start}, Campaigns.{IsInOrder}, inner.View.{begun_of}}
+use Rattle.mc_explore.specs.Boots.{boots}
+use Rattle.mc_campaign.specs.{Campaigns.{IsInOrder}, inner.View.{begun_of}}
+use Rattle.mc_campaign.specs.Rounds.{cuts_along, second_start}
 use Rattle.mc_campaign.specs.facts.Cuts.{along_ordered, ordered_prefix}
 use Rattle.mc_campaign.proofs.{Along.{labelled-length}, CutsInRounds.{is_none, taken_more, taken_whole, taken_within}}
 use Rattle.mc_campaign.proofs.campaign_subject.campaign_at.Given.{Over}

@@ -1,5 +1,6 @@
 use Rattle.std.proofs.Common.{◌≡◌, ◌-◌, length, take}
-use Rattle.mc_campaign.specs.{inner.TwoRounds.{cuts_along}, inner.View.{begun_of}}
+use Rattle.mc_campaign.specs.inner.View.{begun_of}
+use Rattle.mc_campaign.specs.Rounds.{cuts_along}
 use Rattle.mc_campaign.proofs.campaign_subject.campaign_at.Given as goal
 
 abbrev pub invariant-cuts : goal.invariant-cuts

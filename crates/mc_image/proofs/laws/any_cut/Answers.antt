@@ -1,5 +1,5 @@
 use Rattle.std.proofs.Common.{◌∙◌, sym, ap}
-use Rattle.mc_image.specs.inner.Judging.{verdict}
+use Rattle.mc_image.specs.Verdict.{verdict}
 use Rattle.mc_image.proofs.laws.any_cut.Goals as goal
 
 pub returns : goal.returns

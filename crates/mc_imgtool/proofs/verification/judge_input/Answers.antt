@@ -1,7 +1,8 @@
 use Rattle.std.proofs.Common.{◌≡◌, ℕ, ◌≤◌, ◌^◌, List, [], ◌++◌, length, length-append, length-take, take, drop, Option, None, Some, Result, Ok, Err, IfSome, refl, sym, subst, arith}
 use Rattle.std.proofs.{lemmas.List.{take-append-le}, KnownBytes.{Consumes-nil, Consumes-trans, Consumes-all, Consumes-kept}}
 use Rattle.std.specs.Result.{IsErrAnd, MatchResult}
-use Rattle.mc_image.specs.{inner.Judging.{verdict}, declared.error.ImageError.{ImageError}, declared.judge.Judged.{Judged}}
+use Rattle.mc_image.specs.{declared.error.ImageError.{ImageError}, declared.judge.Judged.{Judged}}
+use Rattle.mc_image.specs.Verdict.{verdict}
 use Rattle.mc_imgtool.specs.{Engines.{Judges}, declared.error.ToolError.{ToolError}, declared.error.ToolError.TheVariants.{Image as image_error}}
 use Rattle.mc_imgtool.proofs.Answering.{has_room, within, nothing, longer}
 use Rattle.mc_imgtool.proofs.verification.judge_input.Goals as goal

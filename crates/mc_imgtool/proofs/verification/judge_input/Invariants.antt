@@ -1,6 +1,6 @@
 use Rattle.std.proofs.Common.{◌≡◌, ◌-◌, ◌≤◌, ℕ, List, length}
 use Rattle.std.specs.Io.KnownBytes.{Consumes}
-use Rattle.mc_image.specs.inner.Judging.{Judges}
+use Rattle.mc_image.specs.Judging.{Judges}
 use Rattle.mc_imgtool.proofs.verification.judge_input.Given as goal
 
 abbrev pub invariant-loop-taken : goal.invariant-loop-taken

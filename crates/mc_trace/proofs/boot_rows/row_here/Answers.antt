@@ -2,7 +2,8 @@ use Rattle.std.specs.Prelude.{◌≡◌, ◌<◌, Some, is_some, length, slice_g
 use Rattle.std.proofs.Common.{ap, sym, subst, ◌∙◌}
 use Rattle.mc_boot.specs.{Boot.{progress, to_come}, Outcome.{ops_of, outcome_of}, Plan.{again}, facts.Steps.{none_first}}
 use Rattle.mc_flash.specs.Flash.{Content}
-use Rattle.mc_explore.specs.{facts.Children.{child_here}, inner.LastCuts.{boot_at}, inner.OneRound.{at_cut, begun_of}}
+use Rattle.mc_explore.specs.{facts.Children.{child_here}, inner.LastCuts.{boot_at}, inner.OneRound.{begun_of}}
+use Rattle.mc_explore.specs.Boots.{at_cut}
 use Rattle.mc_trace.specs.inner.Rows.{model_of}
 use Rattle.mc_trace.proofs.BootRows.{one_to_come, op_here}
 use Rattle.mc_trace.proofs.boot_rows.row_here.Goals as goal

@@ -2,7 +2,8 @@ use Rattle.std.specs.{Prelude.{List, None, Some, [], length, ℕ, ◌+◌, ◌<�
 use Rattle.std.proofs.{Common.{ap, arith, subst, sym, ◌∙◌}, KnownBytes.{Appends-trans}, lemmas.List.{length-append, nil_from_length}}
 use Rattle.std.proofs.lemmas.Result.{err_from_is_err_and}
 use Rattle.mc_boot.specs.{Outcome.{ops_of, shown}, Plan.{PowerOn, again}}
-use Rattle.mc_explore.specs.{Schedules.{CanOccur}, facts.Children.{listed_there}, inner.LastCuts.{boot_at}, inner.OneRound.{at_cut, begins}}
+use Rattle.mc_explore.specs.{Schedules.{CanOccur}, facts.Children.{listed_there}, inner.LastCuts.{boot_at}, inner.OneRound.{begins}}
+use Rattle.mc_explore.specs.Boots.{at_cut}
 use Rattle.mc_output.specs.Text.{AppendsPrefix}
 use Rattle.mc_start.specs.Start.{begun}
 use Rattle.mc_trace.specs.{Picture.{boot_section, end_text, sections_text}, inner.Boots.{WritesText}, inner.Rows.{IsReady, model_of}}

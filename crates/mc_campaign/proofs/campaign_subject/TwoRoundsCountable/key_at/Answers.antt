@@ -1,6 +1,7 @@
 use Rattle.std.proofs.{Common.{Bool, List, [], ap, arith, false, length, subst, sym, true, ℕ, ◌++◌, ◌∙◌, ◌≡◌, ◌≤◌}, lemmas.List.{length-take-le}}
 use Rattle.mc_boot.specs.Plan.{PowerOn}
-use Rattle.mc_campaign.specs.{declared.rounds.TwoRounds.{TwoRounds}, inner.TwoRounds.{cuts_along, model_of, rounds}, inner.View.{begun_of}}
+use Rattle.mc_campaign.specs.{declared.rounds.TwoRounds.{TwoRounds}, inner.TwoRounds.{model_of}, inner.View.{begun_of}}
+use Rattle.mc_campaign.specs.Rounds.{cuts_along, rounds}
 use Rattle.mc_explore.specs.inner.OneRound.{begins}
 use Rattle.mc_tree.specs.{Tree.{IsMember, round_one}, facts.Order.{allowed_prefix}}
 use Rattle.mc_walk.specs.Walks.{Follows, IsSame, Walked}

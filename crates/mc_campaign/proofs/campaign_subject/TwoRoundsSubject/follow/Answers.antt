@@ -1,7 +1,8 @@
 use Rattle.std.proofs.Common.{Bool, List, ℕ, true, false}
 use Rattle.mc_explore.specs.{inner.OneRound.{begins}, inner.Exploring.{FollowsKey}}
 use Rattle.mc_walk.specs.Walks.{Walked}
-use Rattle.mc_campaign.specs.{inner.TwoRounds.{cuts_along, model_of}, Rows.{campaigns}, inner.View.{FollowsCampaign}, declared.rounds.TwoRounds.{TwoRounds}}
+use Rattle.mc_campaign.specs.{inner.TwoRounds.{model_of}, Rows.{campaigns}, inner.View.{FollowsCampaign}, declared.rounds.TwoRounds.{TwoRounds}}
+use Rattle.mc_campaign.specs.Rounds.{cuts_along}
 use Rattle.mc_campaign.proofs.campaign_subject.TwoRoundsSubject.follow.Goals as goal
 
 follows : (old new : Walked TwoRounds) (k : List (ℕ × ℕ)) (went : Bool) → FollowsCampaign old k went new

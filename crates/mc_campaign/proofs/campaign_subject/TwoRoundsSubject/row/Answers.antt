@@ -1,7 +1,8 @@
 use Rattle.std.proofs.Common.{List, ℕ, arith, length, ap, refl, sym, subst, ◌∙◌}
 use Rattle.mc_boot.specs.Outcome.{shown}
 use Rattle.mc_flash.specs.Flash.{Content}
-use Rattle.mc_campaign.specs.{inner.TwoRounds.{cuts_along}, Campaigns.{AreReplayed}, facts.Paths.{replayed_at}, inner.View.{begun_of}}
+use Rattle.mc_campaign.specs.{Campaigns.{AreReplayed}, facts.Paths.{replayed_at}, inner.View.{begun_of}}
+use Rattle.mc_campaign.specs.Rounds.{cuts_along}
 use Rattle.mc_campaign.proofs.campaign_subject.TwoRoundsSubject.row.Goals as goal
 
 pub campaign_at-campaign-requires-clause-at_most : goal.campaign_at-campaign-requires-clause-at_most

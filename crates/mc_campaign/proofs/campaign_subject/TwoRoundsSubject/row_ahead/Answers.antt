@@ -3,8 +3,10 @@ use Rattle.std.specs.Prelude.{if◌then◌else◌}
 use Rattle.mc_boot.specs.{Outcome.{shown}, SharedTail.{index_in_parent}}
 use Rattle.mc_start.specs.{Start.{on_last}, facts.Counting.{on_last-push}}
 use Rattle.mc_campaign.proofs.{Along.{labelled-length}, LastCuts.{campaign_ordered, cut_later, row_there, same_round, still_there}}
-use Rattle.mc_campaign.specs.{Rows.{HasOutcomes}, facts.Cuts.{number_later}, inner.LastCuts.{AreLikePaths, EndSoAt, cut_at, first_there, left_in_round}, inner.TwoRounds.{cuts_along, model_of, rounds, second_start}}
-use Rattle.mc_explore.specs.{facts.LastCuts.{like_there, told_there}, inner.OneRound.{begins, boots}}
+use Rattle.mc_campaign.specs.{Rows.{HasOutcomes}, facts.Cuts.{number_later}, inner.LastCuts.{AreLikePaths, EndSoAt, cut_at, first_there, left_in_round}, inner.TwoRounds.{model_of}}
+use Rattle.mc_campaign.specs.Rounds.{cuts_along, rounds, second_start}
+use Rattle.mc_explore.specs.{facts.LastCuts.{like_there, told_there}, inner.OneRound.{begins}}
+use Rattle.mc_explore.specs.Boots.{boots}
 use Rattle.mc_tree.specs.Tree.{label, round_one}
 use Rattle.mc_campaign.proofs.campaign_subject.TwoRoundsSubject.row_ahead.Goals as goal
 

@@ -1,6 +1,7 @@
 use Rattle.std.proofs.Common.{◌≡◌, Some, arith}
 use Rattle.mc_boot.specs.{Outcome.{outcome_of, shown, left_by}, Plan.{again}}
-use Rattle.mc_explore.specs.inner.OneRound.{at_cut, begins}
+use Rattle.mc_explore.specs.inner.OneRound.{begins}
+use Rattle.mc_explore.specs.Boots.{at_cut}
 use Rattle.mc_explore.proofs.Onwards.{cut_so, left_still, of_next, summary_of, summary_still}
 use Rattle.mc_explore.proofs.one_round.OneRound.derive.Goals as goal
 

@@ -1,7 +1,8 @@
 use Rattle.std.proofs.Common.{IfSome, List, None, Option, Some, ℕ}
 use Rattle.mc_boot.specs.{Plan.{PowerOn}, declared.boot.Boot.{Boot}, declared.shared_tail.SharedTail.{SharedTail}, facts.Run.{outcome_defined}}
 use Rattle.mc_explore.specs.{Right.{judged}, declared.expectation.Expectation.{Expectation}, declared.one_round.Summary.{Summary}, facts.Listed.{report_after}}
-use Rattle.mc_explore.specs.{facts.Totals.{totals_weigh}, facts.Tails.{tail_shared}, inner.OneRound.{GoesOnIn, at_cut, begins, boots, one_round}}
+use Rattle.mc_explore.specs.{facts.Totals.{totals_weigh}, facts.Tails.{tail_shared}, inner.OneRound.{GoesOnIn, begins, one_round}}
+use Rattle.mc_explore.specs.Boots.{at_cut, boots}
 use Rattle.mc_explore.specs.{inner.Table.{IsTailOf}, inner.Totals.{report_totals, totals}}
 use Rattle.mc_flash.specs.Usage.{Seen}
 use Rattle.mc_tree.specs.{Tree.{landed}, facts.Weighed.{path_shared}, inner.Weights.{path_tree}}

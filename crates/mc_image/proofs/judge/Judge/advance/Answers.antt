@@ -1,5 +1,6 @@
 use Rattle.std.proofs.{Common.{arith, sym, ◌∙◌, length, subst, List, ℕ}, lemmas.List.{take_rest, drop_all}}
-use Rattle.mc_image.specs.{inner.Judging.{Judges}, inner.Reading.{Goes}}
+use Rattle.mc_image.specs.inner.Reading.{Goes}
+use Rattle.mc_image.specs.Judging.{Judges}
 use Rattle.mc_image.proofs.JudgeLaws.{over_goes}
 use Rattle.mc_image.proofs.judge.Judge.advance.Goals as goal
 

@@ -1,5 +1,6 @@
 use Rattle.std.proofs.{Common.{◌++◌, arith, sym, ap, ◌∙◌, subst, append_assoc, List, ℕ}, lemmas.List.{drop_all}}
-use Rattle.mc_image.specs.{Image.{u16_at}, inner.Reading.{head_fault, Scans}, inner.Judging.{verdict}}
+use Rattle.mc_image.specs.{Image.{u16_at}, inner.Reading.{head_fault, Scans}}
+use Rattle.mc_image.specs.Verdict.{verdict}
 use Rattle.mc_image.proofs.{JudgeLaws.{plain_error, head_fault_more}, Scans.{head_first}}
 use Rattle.mc_image.proofs.judge.Judge.after_head.Goals as goal
 

@@ -1,5 +1,6 @@
 use Rattle.std.proofs.Common.{◌≡◌, arith, ap, ◌∙◌, subst, append_assoc, List, ℕ}
-use Rattle.mc_image.specs.{Image.{IsBytes}, inner.Judging.{verdict, IsPlain}}
+use Rattle.mc_image.specs.{Image.{IsBytes}, inner.Judging.{IsPlain}}
+use Rattle.mc_image.specs.Verdict.{verdict}
 use Rattle.mc_image.proofs.judge.Judge.continue_plain.Goals as goal
 
 pub returns-then-left-gt0 : goal.returns-then-left-gt0

@@ -1,5 +1,5 @@
 use Rattle.std.proofs.Common.{rules, ◌++◌}
-use Rattle.mc_image.specs.inner.Judging.{Judges}
+use Rattle.mc_image.specs.Judging.{Judges}
 use Rattle.mc_image.proofs.Scans.{gone_on, gone_all}
 use Rattle.mc_image.proofs.judge.Judge.feed.Goals as goal
 

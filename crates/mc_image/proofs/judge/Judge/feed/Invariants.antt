@@ -1,5 +1,5 @@
 use Rattle.std.proofs.Common.{◌≡◌, ℕ, ◌++◌, List, length}
-use Rattle.mc_image.specs.inner.Judging.{Judges}
+use Rattle.mc_image.specs.Judging.{Judges}
 use Rattle.mc_image.proofs.judge.Judge.feed.Given as goal
 
 abbrev pub invariant-loop-rest : goal.invariant-loop-rest

@@ -1,5 +1,6 @@
 use Rattle.std.proofs.{Common.{arith, sym, ap, ◌∙◌, ◌++◌, [], length-append, subst, List, ℕ}, lemmas.List.{append-nil}}
-use Rattle.mc_image.specs.{Image.{IsBytes}, inner.Judging.{verdict}}
+use Rattle.mc_image.specs.Image.{IsBytes}
+use Rattle.mc_image.specs.Verdict.{verdict}
 use Rattle.mc_image.proofs.JudgeLaws.{fields_short, body_short, header_ends, has_header_more, plain_error, at_stage, no_magic, no_room}
 use Rattle.mc_image.proofs.judge.Judge.finish.Goals as goal
 

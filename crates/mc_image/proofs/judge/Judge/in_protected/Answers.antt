@@ -1,5 +1,6 @@
 use Rattle.std.proofs.{Common.{◌≡◌, ◌-◌, ◌++◌, arith, sym, ap, ◌∙◌, length, subst, List, ℕ, false, []}, lemmas.List.{append-nil}}
-use Rattle.mc_image.specs.{Image.{protected_end}, Valid.{protected_fault}, inner.Judging.{verdict, HasHeader, IsProtected}}
+use Rattle.mc_image.specs.{Image.{protected_end}, Valid.{protected_fault}, inner.Judging.{HasHeader, IsProtected}}
+use Rattle.mc_image.specs.Verdict.{verdict}
 use Rattle.mc_image.proofs.JudgeLaws.{has_header_more, body_ends, protected_bad, protected_tested, protected_taken}
 use Rattle.mc_image.proofs.judge.Judge.in_protected.Goals as goal
 
