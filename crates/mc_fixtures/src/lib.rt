@@ -103,6 +103,9 @@ digest good
 /// Zeros, as many as an image has that is one byte too large for the worked layout.
 static ZEROS: [u8; 441] = [0; 441];
 
+/// A life: the device is begun, and another image is downloaded.
+static SCRIPT: &[u8] = b"boot\ndownload second\n";
+
 /// The bytes above by their names, as tests name them.
 pub fn named(name: &str) -> Option<&'static [u8]> {
     match name {
@@ -114,6 +117,7 @@ pub fn named(name: &str) -> Option<&'static [u8]> {
         "counted" => Some(&COUNTED_IMAGE),
         "empty" => Some(&EMPTY_IMAGE),
         "zeros" => Some(&ZEROS),
+        "script" => Some(SCRIPT),
         _ => None,
     }
 }

@@ -1,7 +1,7 @@
 //! Command lines whose reads and writes fail, each at each call.
-use super::support::{ran_over, same_at, words_of};
+use super::support::{contents, in_full, ran_over, same_at, text_of, words_of};
 use mc_command::run;
-use mc_fixtures::{Failure, Fault, FaultyFile, PAYLOAD, PLAIN_IMAGE};
+use mc_fixtures::{FailingWriter, Failure, Fault, FaultyFile, FaultyFiles, PAYLOAD, PLAIN_IMAGE};
 use std::alloc::Global;
 use std::cell::RefCell;
 use std::process::Abort;
@@ -90,5 +90,128 @@ static STATUSES: [(&str, u8); 5] = [
 fn statuses_stand_where_no_text_can_be_written(rt: HostRuntime) {
     for (line, want) in &STATUSES {
         same_at(&rt, line, &status_of(&rt, rt.alloc(), *line), want);
+    }
+}
+
+/// Each command that writes to standard output, with the file `in`.
+const TEXTS: &str = "\
+verify in < counted
+dumpinfo in < counted
+create --version 2 --pad-header --header-size 32 in - < payload
+explain E33
+help verify
+layout WORKED --erase-us 1000 --write-us 10
+type WORKED --kind test IMAGES
+boot WORKED --kind test IMAGES
+replay WORKED --kind test IMAGES --schedule 9.4
+replay WORKED --kind test IMAGES --rounds 2 --schedule 2.4
+trace WORKED --kind test IMAGES
+trace WORKED --kind test IMAGES --rounds 2
+sectors WORKED --kind test IMAGES
+sectors WORKED --kind test IMAGES --rounds 2
+picture WORKED --kind test IMAGES
+vectors WORKED --kind test IMAGES --cuts 1
+explore WORKED --kind test IMAGES --cuts 1 --limit 2 --expect-primary 2
+campaign WORKED --kind test IMAGES --cuts 1 --limit 2 --expect-primary 2
+survey WORKED --kind test IMAGES --cuts 1 --expect-primary 2
+survey WORKED --kind test IMAGES --rounds 2 --cuts 1 --expect-primary 2
+census WORKED --kind test IMAGES --cuts 1 --expect-primary 2
+census WORKED --kind test IMAGES --rounds 2 --cuts 1 --expect-primary 2
+life WORKED --image first --wear script
+inspect WORKED --flash in --known-a first --known-b second < MOVED
+locate WORKED --flash in --known-a first --known-b second < MOVED,1280=00
+";
+
+/// How many bytes of what is written are a page of rows: a write of these is refused by another number.
+fn rows_of(line: &str, whole: &[u8]) -> usize {
+    if !line.starts_with("explore") && !line.starts_with("campaign") {
+        return 0;
+    }
+    let text = str::from_utf8(whole).unwrap_or("");
+    let (_, cursor) = text.split_once("next ").unwrap_or(("", text));
+    let (_, verdict) = cursor.split_once('\n').unwrap_or(("", ""));
+    text.len().saturating_sub(verdict.len())
+}
+
+/// How a command line ends with that file `in` and a standard output that fails after so many bytes: its status, what it says of it,
+/// and what is out.
+fn ends_after(
+    rt: &impl Abort,
+    alloc: Global,
+    line: &str,
+    input: &[u8],
+    calls: usize,
+) -> (u8, String, Vec<u8>) {
+    let written = RefCell::new(Vec::new(alloc));
+    let files = FaultyFiles {
+        input,
+        written: &written,
+        reads: usize::MAX,
+        writes: usize::MAX,
+        fault: Fault::Error,
+    };
+    let mut out = FailingWriter {
+        taken: Vec::new(alloc),
+        failure: Failure {
+            calls,
+            fault: Fault::Error,
+            lasts: true,
+        },
+    };
+    let words = words_of(rt, alloc, line);
+    let (mut input, mut err) = ([].as_slice(), Vec::new(alloc));
+    let status = run(
+        &files,
+        alloc,
+        words.as_slice(),
+        &mut input,
+        &mut out,
+        &mut err,
+    );
+    (status, text_of(rt, err), out.taken)
+}
+
+/// Looks how a command line ends that cannot write these bytes from some byte on: with the first of them out.
+fn breaks_off(
+    rt: &impl Abort,
+    alloc: Global,
+    line: &str,
+    input: &[u8],
+    calls: usize,
+    whole: &[u8],
+) {
+    let (status, err, taken) = ends_after(rt, alloc, line, input, calls);
+    let refusal = if calls < rows_of(line, whole) {
+        "mcsim: E59 Write\n"
+    } else {
+        "mcsim: E25 Write\n"
+    };
+    let found = (status, err.as_str(), Some(taken.as_slice()));
+    let wanted = (3, refusal, whole.get(..calls));
+    same_at(rt, &(line, calls), &found, &wanted)
+}
+
+/// The first byte, a later one, the first after the rows, the one in the middle, and the last.
+fn breaks_off_anywhere(rt: &impl Abort, alloc: Global, shown: &str) {
+    let shown = in_full(rt, alloc, shown);
+    let (line, file) = shown
+        .as_str()
+        .split_once(" < ")
+        .unwrap_or((shown.as_str(), ""));
+    let file = contents(rt, alloc, file);
+    let input = file.as_slice();
+    let (status, _, written) = ends_after(rt, alloc, line, input, usize::MAX);
+    let whole = written.as_slice();
+    same_at(rt, &line, &status, &0);
+    let last = whole.len().saturating_sub(1);
+    for calls in [0, 10, rows_of(line, whole), whole.len() / 2, last] {
+        breaks_off(rt, alloc, line, input, calls, whole);
+    }
+}
+
+#[test]
+fn what_cannot_be_written_is_refused(rt: HostRuntime) {
+    for line in TEXTS.lines() {
+        breaks_off_anywhere(&rt, rt.alloc(), line);
     }
 }

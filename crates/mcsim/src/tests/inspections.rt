@@ -2,7 +2,7 @@
 //! is overwritten.
 use super::support::{Table, all_play};
 
-/// The dump of a test that is asked for, with and without the known images; one whose image is torn; one whose first status entry is that
+/// The dump of a test that is asked for; one that is to be taken back, whose other magic is torn, by other rules; one whose image is torn; one whose first status entry is that
 /// of a trailer with fewer sectors, with a magic at the end of another sector.
 const INSPECTED: &str = "\
 $ inspect WORKED --flash in --known-a first --known-b second < 1792:0=first,1024=second,1776=MAGIC
@@ -20,11 +20,34 @@ type test
 ops 18
 SWAPPED
 next revert
-schedules ...
+schedules 44166610515609
+boot 44166610515609
 none 0
 panic 0
 fault 0
 most-ops 18
+first-not-boot none
+$ inspect WORKED --grain unit --profile 2 --flash in --known-a first --known-b second < TORN
+trailer primary magic=good image-ok=unset copy-done=set swap-info=0xff swap-size=4294967295
+trailer secondary magic=bad image-ok=unset copy-done=unset swap-info=0xff swap-size=4294967295
+resume no
+table revert
+image primary SECOND
+image secondary FIRST
+sectors primary b0 - - t
+sectors secondary a0 - t
+first erase secondary 2
+result boot
+type revert
+ops 115
+KEPT
+next none
+schedules 825245368244644748302168377
+boot 825245368244644748302168377
+none 0
+panic 0
+fault 0
+most-ops 115
 first-not-boot none
 $ inspect WORKED --flash in < 1792:0=first,79=00
 trailer primary UNSET
@@ -81,27 +104,35 @@ $ inspect WORKED --flash in --known-a first < 1792:0=first
 ! mcsim: E70 SourceOptions; exit 2
 ";
 
-/// What lies in the flash before operation 9 of the test: the running image at its place and one sector above, and one status entry.
-/// Then with a byte that no cut leaves.
+/// A dump and where it occurs: before operation 9 of the test, and with a byte that no cut leaves; before one of a swap for good and of a
+/// revert; images alone, which are as near to a swap for good as to a test; and a sector that is copied by half, in units and in whole calls.
 const LOCATED: &str = "\
-$ locate WORKED --flash in --known-a first --known-b second < CUT
-swap test
-schedule 9
-differs 0
-all yes
-$ locate WORKED --flash in --known-a first --known-b second < CUT,1280=00
-swap test
-schedule 9
-differs 1
-secondary 1
-all yes
-$ locate WORKED --flash in < CUT
+$ locate WORKED --grain GRAIN --flash in --known-a first --known-b second < DUMP
+swap SWAP; schedule SCHEDULE; differs FOUND
+";
+
+const FIELDS: &[&str] = &["GRAIN", "DUMP", "SWAP", "SCHEDULE", "FOUND"];
+
+const DUMPS: &str = "\
+call MOVED test 9 0; all yes
+call MOVED,1280=00 test 9 1; secondary 1; all yes
+call 1792:0=first,256=first,880=01,976=50000000,984=03,1000=01,1008=MAGIC,1024=second perm 10 0; all yes
+call 1792:0=first,256=second,880=01,976=50000000,984=04,1000=01,1008=MAGIC,1024=first revert 16 0; all yes
+call 1792:0=first,1024=second test - 1; secondary 2; all yes
+unit 1792:0=first,256=3db8f396000000002000000008000000,976=50000000,984=02,1008=MAGIC,1024=second test 9 0; all yes
+call 1792:0=first,256=3db8f396000000002000000008000000,976=50000000,984=02,1008=MAGIC,1024=second test 5 1; primary 1; all yes
+";
+
+const UNKNOWN: &str = "\
+$ locate WORKED --flash in < 1792:0=first
 ! mcsim: E70 SourceOptions; exit 2
 ";
 
-const CUT: &str = "1792:0=first,256=first,880=01,976=50000000,984=02,1008=MAGIC,1024=second";
-
-static TABLES: [Table; 2] = [(INSPECTED, &[], "-"), (LOCATED, &["CUT"], CUT)];
+static TABLES: [Table; 3] = [
+    (INSPECTED, &[], "-"),
+    (LOCATED, FIELDS, DUMPS),
+    (UNKNOWN, &[], "-"),
+];
 
 #[test]
 fn explains_and_locates_dumps(rt: HostRuntime) {

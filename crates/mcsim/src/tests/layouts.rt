@@ -60,6 +60,10 @@ primary erases 2
 secondary erases 1
 primary trailer-erases 1
 secondary trailer-erases 1
+$ layout --sector 4096 --unit 4 --max-sectors 128 --chunk 1024 --primary 118 --secondary 118 --erase-us 85000 --write-us 41
+trailer-bytes 1584...secondary trailer-erases 1
+swap-us 44374987
+revert-us 44460274
 $ layout --sector 65536 --unit 8 --max-sectors 4 --chunk 128 --primary 256 --secondary 255
 trailer-bytes 144...! mcsim: note: --max-sectors 4 is less than --primary 256, so that MCUboot refuses to swap; exit 0
 $ layout --sector 4096 --unit 4 --max-sectors 128 --chunk 1024 --primary 118 --secondary 116
@@ -130,6 +134,10 @@ primary magic=good image-ok=unset copy-done=bad swap-info=0xff swap-size=4294967
 secondary magic=bad image-ok=unset copy-done=unset swap-info=0xff swap-size=4294967295
 resume no; table none
 $ type WORKED --flash in < 1792:0=ff
+primary UNSET; secondary UNSET; resume no; table none
+$ type WORKED --kind none --image-a in --image-b first < 1048577:0=first
+primary UNSET; secondary UNSET; resume no; table none
+$ type --sector 65536 --unit 8 --max-sectors 4 --chunk 128 --primary 9 --secondary 8 --flash in < 1114112:0=first
 primary UNSET; secondary UNSET; resume no; table none
 ";
 

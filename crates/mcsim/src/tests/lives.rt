@@ -1,5 +1,7 @@
 //! `life`: scripts at the worked layout, with what they print.
-use super::support::{contents, in_full, ran_over, same_at, shows, text_of, words_of};
+use super::support::{
+    Table, all_play, contents, in_full, ran_over, same_at, shows, text_of, words_of,
+};
 use mc_command::run;
 use mc_fixtures::{FAULTS, FailingReader, FailingWriter, Failure, Fault, FaultyFiles};
 use std::alloc::Global;
@@ -129,6 +131,19 @@ static REFUSED: [LifeSession; 11] = [
     },
 ];
 
+/// Lives whose script is a file: of a flash, by other rules; and files that would be lost.
+const FILES: &str = "\
+$ life WORKED --flash in --grain unit --profile 2 script < TORN
+1 boot boot revert 115 1.0.0+0/80 settled 2.0.0+0/80 none
+2 download second 1.0.0+0/80 settled 2.0.0+0/80 none
+$ life WORKED --image first --out second script
+! mcsim: E75 SameFile; exit 2
+$ life WORKED --image first --out script script
+! mcsim: E75 SameFile; exit 2
+";
+
+static TABLES: [Table; 1] = [(FILES, &[], "-")];
+
 /// Looks what each of some scripts prints.
 fn show_all(rt: &impl Abort, alloc: Global, shown: &[LifeSession]) {
     for one in shown {
@@ -140,7 +155,8 @@ fn show_all(rt: &impl Abort, alloc: Global, shown: &[LifeSession]) {
 #[test]
 fn shows_lives_or_refuses_them(rt: HostRuntime) {
     show_all(&rt, rt.alloc(), &LIVES);
-    show_all(&rt, rt.alloc(), &REFUSED)
+    show_all(&rt, rt.alloc(), &REFUSED);
+    all_play(&rt, rt.alloc(), &TABLES)
 }
 
 /// How a life ends that reads its script here and is printed there: its status, and the line of a refusal.

@@ -2,6 +2,8 @@
 use super::support::{Table, all_play, in_full, same_at, shown_of, shows};
 use mc_fixtures::{PAYLOAD, PLAIN_IMAGE, named};
 use std::alloc::Global;
+use std::fs::Permissions;
+use std::os::unix::fs::PermissionsExt;
 use std::process::Abort;
 use std::rt::Files;
 use std::{env, fs, process};
@@ -11,6 +13,18 @@ const LAYOUT_FILE: &[u8] =
     b"# worked\n--sector 256\n--unit=8 # bytes\n\n --max-sectors\t4\r\n--chunk 128\n--primary 4\n--secondary 3";
 
 const OTHER_FILE: &[u8] = b"--sector 256\n--kind test\n";
+
+/// Looks what is printed of a layout whose file is as long as one may be, and what of a longer one.
+fn long_layouts(rt: &impl Abort, alloc: Global, line: &str, want: &str) {
+    let mut file = LAYOUT_FILE.to_vec(alloc).expect(rt, "memory");
+    for (length, want) in [
+        (65_536, want),
+        (65_537, "! mcsim: E23 InputTooLong\nexit 1\n"),
+    ] {
+        file.resize(length, b'\n').expect(rt, "memory");
+        shows(rt, alloc, line, file.as_slice(), want);
+    }
+}
 
 #[test]
 fn reads_a_layout_from_a_file(rt: HostRuntime) {
@@ -38,6 +52,11 @@ fn reads_a_layout_from_a_file(rt: HostRuntime) {
         &[],
         missing,
     );
+    long_layouts(&rt, rt.alloc(), type_line, trailers.as_str());
+    let path = "! mcsim: E71 Open\nexit 3\n";
+    shows(&rt, rt.alloc(), "verify -- --layout=in", LAYOUT_FILE, path);
+    let paths = "create --version 2 --header-size 32 -- --layout in";
+    shows(&rt, rt.alloc(), paths, LAYOUT_FILE, path);
     let no_file = in_full(&rt, rt.alloc(), "layout WORKED --layout");
     let unfinished = "! error: a value is required...exit 2\n";
     shows(&rt, rt.alloc(), no_file.as_str(), &[], unfinished);
@@ -118,14 +137,14 @@ fn keeps_until_whole<H: Abort + Files + Alloc>(rt: &H, alloc: Global, path: &str
     )
 }
 
-/// Boots a flash in place, and refuses to write the flash at a cut there.
-fn boots_in_place<H: Abort + Files + Alloc>(rt: &H, alloc: Global, path: &str) {
+/// Boots a flash in place, by its path or a link.
+fn boots_in_place<H: Abort + Files + Alloc>(rt: &H, alloc: Global, path: &str, out: &str) {
     let image = named("first").unwrap_or_default();
     let mut bytes = Vec::new(alloc);
     bytes.extend_from_slice(image).expect(rt, "memory");
     bytes.resize(1792, 0xff).expect(rt, "memory");
     fs::write(rt, path, bytes.as_slice()).expect(rt, "a file");
-    let line = format!(in alloc; "boot WORKED --flash {path} --out {path}").expect(rt, "memory");
+    let line = format!(in alloc; "boot WORKED --flash {path} --out {out}").expect(rt, "memory");
     let line = in_full(rt, alloc, line.as_str());
     let want = in_full(
         rt,
@@ -136,14 +155,35 @@ fn boots_in_place<H: Abort + Files + Alloc>(rt: &H, alloc: Global, path: &str) {
     holds(rt, path, &bytes)
 }
 
-/// What is written takes the place of a plain file when it is whole, and not before.
+/// Looks whether a file has the rights of its owner and group alone.
+fn has_rights<H: Abort + Files>(rt: &H, path: &str) {
+    let file = fs::metadata(rt, path).expect(rt, "a file");
+    same_at(rt, &path, &(file.permissions().mode() & 0o777), &0o640)
+}
+
+/// Boots a flash in place through a link, which stays one.
+fn boots_through_a_link<H: Abort + Files + Alloc>(rt: &H, alloc: Global, path: &str) {
+    let link = format!(in alloc; "{path}-link").expect(rt, "memory");
+    rt.symlink(path, link.as_str()).expect(rt, "a link");
+    boots_in_place(rt, alloc, path, link.as_str());
+    let file = fs::symlink_metadata(rt, link.as_str()).expect(rt, "a link");
+    same_at(rt, &path, &file.is_symlink(), &true);
+    fs::remove_file(rt, link.as_str()).expect(rt, "a link")
+}
+
+/// What is written takes the place of a plain file when it is whole, and not before, and has that one's rights.
 #[test]
 fn writes_beside_and_renames(rt: HostRuntime) {
     let folder = env::temp_dir(&rt).expect(&rt, "a folder");
     let id = process::id(rt.process());
     let path = format!(in rt.alloc(); "{}/mcsim-{id}-outfile", folder.as_str());
     let path = path.expect(&rt, "memory");
+    fs::write(&rt, path.as_str(), "").expect(&rt, "a file");
+    rt.set_permissions(path.as_str(), Permissions::from_mode(0o640))
+        .expect(&rt, "a file");
     keeps_until_whole(&rt, rt.alloc(), path.as_str());
-    boots_in_place(&rt, rt.alloc(), path.as_str());
+    boots_in_place(&rt, rt.alloc(), path.as_str(), path.as_str());
+    has_rights(&rt, path.as_str());
+    boots_through_a_link(&rt, rt.alloc(), path.as_str());
     fs::remove_file(&rt, path.as_str()).expect(&rt, "a file")
 }

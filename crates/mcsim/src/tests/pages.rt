@@ -119,6 +119,10 @@ $ explore WORKED --kind test IMAGES --cuts 1 --until 3 --limit 4
 - boot test 18 2.0.0+0/80 1.0.0+0/80 revert; 0 boot test 18 2.0.0+0/80 1.0.0+0/80 revert; 1 boot test 18 2.0.0+0/80 1.0.0+0/80 revert; 2 boot test 18 2.0.0+0/80 1.0.0+0/80 revert; next mc1:START:1:2
 $ explore WORKED --kind test IMAGES --cuts 1 --until 3 --limit 2
 - boot test 18 2.0.0+0/80 1.0.0+0/80 revert; 0 boot test 18 2.0.0+0/80 1.0.0+0/80 revert; next mc1:START:1:0
+$ explore WORKED --flash in --cuts 2 --all-right < BEGUN
+! mcsim: E85 NoExpectation; exit 2
+$ survey WORKED --kind test IMAGES --cuts 3
+rows 1000; boot 1000; none 0; panic 0; fault 0; most-ops 18; next mc1:START:3:4.5.13
 $ explore WORKED --kind none IMAGES --cuts 0 --limit 1
 - boot none 0 1.0.0+0/80 2.0.0+0/80 none; next mc1:0cf2f5a1b9a451dc9bb060b1858a94da9927942d58635a051bee1bff2fd4356b:0:-
 ";

@@ -120,7 +120,7 @@ pub fn ran(rt: &impl Abort, alloc: Global, line: &str, input: &[u8]) -> Outcome 
 }
 
 /// How many lines a text has, and its SHA-256.
-fn sum_of(rt: &impl Abort, alloc: Global, text: &str) -> String {
+pub fn sum_of(rt: &impl Abort, alloc: Global, text: &str) -> String {
     let count = text.lines().count();
     let sum = hex::encode(alloc, Sha256::digest(text.as_bytes())).expect(rt, "memory");
     format!(in alloc; "lines {count} {sum}\n").expect(rt, "memory")
@@ -173,6 +173,8 @@ KEPT primary FIRST; secondary SECOND
 START 9b07a99687c30f1c748c995c0d4df48a8af881b571e209fd613b03ba09e2b5b7
 BEGUN 1792:1008=MAGIC
 MIXED 1792:992=01,1008=MAGIC,1024=second
+MOVED 1792:0=first,256=first,880=01,976=50000000,984=02,1008=MAGIC,1024=second
+TORN 1792:0=second,992=01,1008=MAGIC,1024=first,1776=77c295f360d2ef7f
 UNSET magic=unset image-ok=unset copy-done=unset swap-info=0xff swap-size=4294967295
 LARGER 31e51cada910d18be541c1fed45924a8449c611617190bed4e31ca876b3385ce
 MAGIC 77c295f360d2ef7f3552500f2cb67980

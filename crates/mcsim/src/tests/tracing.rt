@@ -93,6 +93,8 @@ $ sectors WORKED --kind test IMAGES --schedule 9
 primary a0 a0 - *; secondary b0 - -
 $ sectors WORKED --kind test IMAGES --schedule 10
 primary - a0 - *; secondary b0 - -
+$ sectors WORKED --flash in --schedule 1 < MOVED
+primary - a0 - a3; secondary b0 - -
 $ sectors WORKED --kind test IMAGES --schedule 18
 ! mcsim: E53 CannotOccur at 0; exit 1
 $ replay WORKED --kind test IMAGES --schedule - --at-cut out
@@ -100,12 +102,13 @@ result boot; type test; ops 18; SWAPPED; next revert
 => 1792:0=first,1024=second,1776=MAGIC
 $ replay WORKED --kind test IMAGES --schedule 0.9 --at-cut out
 result boot; type test; ops 9; SWAPPED; next revert
-=> 1792:0=first,256=first,880=01,976=50000000,984=02,1008=MAGIC,1024=second
+=> MOVED
 $ replay WORKED --kind test IMAGES --schedule 0.18 --at-cut out
 ! mcsim: E53 CannotOccur at 1; exit 1
 ";
 
-/// How the boot of a test swap begins where each unit is written by itself, worked out by hand.
+/// How the boot of a test swap begins where each unit is written by itself, worked out by hand; and a revert whose magic is torn, which
+/// the second profile takes back.
 const UNITS: &str = "\
 $ trace WORKED --kind test IMAGES --grain unit
 boot 0 test
@@ -120,6 +123,14 @@ $ sectors WORKED --kind test IMAGES --grain unit --schedule 9 --words all
 primary a0 a0~ - t; secondary b0 - -
 $ sectors WORKED --kind test IMAGES --grain unit --schedule 9
 primary a0 * - *; secondary b0 - -
+$ trace WORKED --kind revert IMAGES --grain unit --profile 2 --schedule 4 --from 114
+boot 0 revert
+cut before 4 write secondary 760 magic 3552500f2cb67980
+boot 1 revert
+114 write primary 992 copy-done 01ffffffffffffff
+result boot; type revert; ops 115; SWAPPED; next none
+$ sectors WORKED --kind revert IMAGES --grain unit --profile 2 --schedule 4 --end
+primary a1 a0 - *; secondary a0 - -
 ";
 
 /// The flash of each kind of start. Images are placed without the bytes after them, and a flash as it is.
@@ -189,6 +200,28 @@ fault 1...<section><h2>boot 0 test, ops 0</h2>
 </section>
 <section><h2>outcome</h2>
 <pre class=\"z\">result fault; type test; ops 0; primary none; secondary none; next test
+</pre>
+</section>
+</html>
+$ picture WORKED --kind revert IMAGES --grain unit --schedule 4
+...<h1>schedule 4</h1>
+<pre class=\"z\">right 801533844734458121087621385
+first-not-right 0.0.0.0.0.0.0.0.0.0.0.0.0.0.0.4
+schedules 801533844734458122519277150
+boot 801533844734458122519277150
+none 0...<pre class=\"z\">result boot; type none; ops 0; KEPT; next none
+</pre>
+</section>
+</html>
+$ picture WORKED --kind revert IMAGES --grain unit --profile 2 --schedule 4
+...<pre class=\"y\">right 825245368244644748302168377
+first-not-right none...<pre class=\"y\">result boot; type revert; ops 115; SWAPPED; next none
+</pre>
+</section>
+</html>
+$ picture WORKED --kind test IMAGES --expect-secondary none
+...<pre class=\"z\">right 0
+first-not-right -...<pre class=\"z\">result boot; type test; ops 18; SWAPPED; next revert
 </pre>
 </section>
 </html>

@@ -1,7 +1,8 @@
 //! `vectors`: the distinct flashes that cuts leave. Tables and patch are those of a boot loader that shares no code with this repository,
 //! stopped after each operation.
-use super::support::{Table, all_play, same_at, shown_of};
+use super::support::{Table, all_play, contents, same_at, shown_of, sum_of, text_of};
 use mc_fixtures::named;
+use sha2::{Digest, Sha256};
 use std::alloc::Global;
 use std::process::Abort;
 use std::rt::Files;
@@ -24,6 +25,8 @@ result boot; type test; ops 18; SWAPPED; next revert
 => 1792 bytes
 $ vectors WORKED --flash in --cuts all --grain unit < out
 lines 91 de8e93c9eed5395bb44359937afb8fc1433a700f1597e96eb2ad2b16732bd483
+$ vectors WORKED --kind revert IMAGES --cuts 1 --grain unit --profile 2
+lines 49 cf4cfa1f58c01f652b581fe78277a567aee796af770b3e9559bce81696ab2ec3
 $ vectors WORKED --kind test IMAGES --cuts 17
 ! mcsim: --cuts takes a number from 0 to 16; exit 2
 $ vectors WORKED --kind test IMAGES --cuts all --patches
@@ -39,9 +42,9 @@ fn lists_each_flash_once(rt: HostRuntime) {
     all_play(&rt, rt.alloc(), &TABLES)
 }
 
-/// The words of a folder of patches, but for its path and those of the images.
+/// The words of a folder, but for its path, those of the images, how many cuts, and what it has.
 const FOLDER: &str =
-    "vectors --sector 256 --unit 8 --max-sectors 4 --chunk 128 --primary 4 --secondary 3 --kind test --cuts all --patches";
+    "vectors --sector 256 --unit 8 --max-sectors 4 --chunk 128 --primary 4 --secondary 3 --kind test";
 
 /// How the flash after the first nine operations differs from the start's: a sector that was moved, and both trailers.
 const PATCH: &str = "\
@@ -68,28 +71,81 @@ fn prints<H: Abort + Files>(rt: &H, alloc: Global, line: &str, want: &str) {
     same_at(rt, &line, &text.as_str(), &want)
 }
 
-/// Looks what the patch after nine operations is.
-fn holds_patch<H: Abort + Files + Alloc>(rt: &H, alloc: Global, folder: &str) {
-    let path = format!(in alloc;
-        "{folder}/flash/f199133647f56ba34636a0976484e63d53ae9d6b27ef910e5e245ee2d3d753c6.patch"
-    ).expect(rt, "memory");
-    let text = fs::read_to_string(rt, path.as_str()).expect(rt, "a file");
-    same_at(rt, &path.as_str(), &text.as_str(), &PATCH)
-}
-
-/// Writes a folder, and refuses to write it again.
-fn writes_once<H: Abort + Files + Alloc>(
+/// What a file of a folder holds.
+fn held<H: Abort + Files + AllocGlobal>(
     rt: &H,
     alloc: Global,
-    first: &str,
-    second: &str,
     folder: &str,
+    name: &str,
+) -> Vec<u8> {
+    let path = format!(in alloc; "{folder}/{name}").expect(rt, "memory");
+    fs::read(rt, path.as_str()).expect(rt, "a file")
+}
+
+/// Looks what the start's flash is, and the patch after nine operations.
+fn holds_patch<H: Abort + Files + AllocGlobal>(rt: &H, alloc: Global, folder: &str) {
+    let start = contents(
+        rt,
+        alloc,
+        "1792:0=first,1024=second,1776=77c295f360d2ef7f3552500f2cb67980",
+    );
+    let name = "start.bin";
+    same_at(rt, &name, &held(rt, alloc, folder, name), &start);
+    let name = "flash/f199133647f56ba34636a0976484e63d53ae9d6b27ef910e5e245ee2d3d753c6.patch";
+    let patch = held(rt, alloc, folder, name);
+    same_at(rt, &name, &patch.as_slice(), &PATCH.as_bytes())
+}
+
+/// Looks whether the flash of that digest is there.
+fn holds_flash<H: Abort + Files + AllocGlobal>(rt: &H, alloc: Global, folder: &str, digest: &str) {
+    let name = format!(in alloc; "flash/{digest}.bin").expect(rt, "memory");
+    let flash = held(rt, alloc, folder, name.as_str());
+    let mut sectors = Sha256::new();
+    for sector in flash.chunks(256) {
+        sectors.update(Sha256::digest(sector));
+    }
+    let found = hex::encode(alloc, sectors.finalize()).expect(rt, "memory");
+    same_at(rt, &name.as_str(), &found.as_str(), &digest)
+}
+
+/// Looks whether the table is that of all cuts, and each flash that it names is there.
+fn holds_flashes<H: Abort + Files + AllocGlobal>(rt: &H, alloc: Global, folder: &str) {
+    let table = text_of(rt, held(rt, alloc, folder, "cases.tsv"));
+    let sum = sum_of(rt, alloc, table.as_str());
+    let want = "lines 14 8c3f8c82f5adfa3179202ff06db9a1ae0d07de8c637c4b407da10829bd85119f\n";
+    same_at(rt, &folder, &sum.as_str(), &want);
+    for line in table.lines().skip(1) {
+        for digest in line.split('\t').filter(|field| field.len() == 64) {
+            holds_flash(rt, alloc, folder, digest);
+        }
+    }
+}
+
+/// What is asked of a folder, and what is printed of it.
+static ASKED: [(&str, &str); 3] = [
+    ("--cuts all", "flashes 13\nall yes\n"),
+    ("--cuts all --patches", "flashes 13\nall yes\n"),
+    ("--cuts 0", "flashes 1\nall no\n"),
+];
+
+/// Writes a folder that is empty, and refuses to write it again.
+fn writes_once<H: Abort + Files + AllocGlobal>(
+    rt: &H,
+    alloc: Global,
+    images: &str,
+    folder: &str,
+    asked: &(&str, &str),
 ) {
-    let line = format!(in alloc;
-        "{FOLDER} --image-a {first} --image-b {second} --dir {folder}"
-    ).expect(rt, "memory");
-    prints(rt, alloc, line.as_str(), "flashes 13\nall yes\n");
-    holds_patch(rt, alloc, folder);
+    let (words, want) = asked;
+    let line = format!(in alloc; "{FOLDER} {images} {words} --dir {folder}").expect(rt, "memory");
+    fs::create_dir(rt, folder).expect(rt, "a folder");
+    prints(rt, alloc, line.as_str(), want);
+    if words.ends_with("patches") {
+        holds_patch(rt, alloc, folder);
+    }
+    if words.ends_with("all") {
+        holds_flashes(rt, alloc, folder);
+    }
     prints(rt, alloc, line.as_str(), "! mcsim: E86 InUse\nexit 2\n");
     fs::remove_dir_all(rt, folder).expect(rt, "a folder")
 }
@@ -103,13 +159,15 @@ fn writes_a_folder_once(rt: HostRuntime) {
     let folder = path_in(&rt, rt.alloc(), temporary.as_str(), id, "cases");
     write_named(&rt, first.as_str(), "first");
     write_named(&rt, second.as_str(), "second");
-    writes_once(
-        &rt,
-        rt.alloc(),
+    let images = format!(in rt.alloc();
+        "--image-a {} --image-b {}",
         first.as_str(),
-        second.as_str(),
-        folder.as_str(),
-    );
+        second.as_str()
+    )
+    .expect(&rt, "memory");
+    for asked in &ASKED {
+        writes_once(&rt, rt.alloc(), images.as_str(), folder.as_str(), asked);
+    }
     fs::remove_file(&rt, first.as_str()).expect(&rt, "a file");
     fs::remove_file(&rt, second.as_str()).expect(&rt, "a file")
 }
