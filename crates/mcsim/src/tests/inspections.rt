@@ -1,9 +1,8 @@
-//! `inspect` and `locate`, of dumps that are worked out by hand: a test that is asked for, and one that lost power before the running image
-//! is overwritten.
+//! `inspect` and `locate`, of dumps that are worked out by hand, or with a model that shares no code with this repository.
 use super::support::{Table, all_play};
 
-/// The dump of a test that is asked for; one that is to be taken back, whose other magic is torn, by other rules; one whose image is torn; one whose first status entry is that
-/// of a trailer with fewer sectors, with a magic at the end of another sector.
+/// The dump of a test that is asked for; one of a test to be taken back whose magic is torn, by rules that take it back; one whose image is
+/// torn; one whose first status entry is that of a trailer with fewer sectors, with a magic at the end of another sector.
 const INSPECTED: &str = "\
 $ inspect WORKED --flash in --known-a first --known-b second < 1792:0=first,1024=second,1776=MAGIC
 trailer primary UNSET
