@@ -1,16 +1,18 @@
 //! What the words ask of each row that is counted, and whether it is so.
-ghost use Rattle.std.specs.Prelude.{◌≡◌, ◌↔◌, ◌||◌, true, IfOk, IfSome, List, OnOk, option_map};
+ghost use Rattle.std.specs.Prelude.{◌≡◌, ◌↔◌, ◌||◌, true, IfOk, IfSome, List, OnErr, OnOk, option_map};
 ghost use Rattle.std.specs.Io.KnownBytes.{Appends};
 ghost use Rattle.clap.specs.Matches.{found_of};
 ghost use Rattle.mc_boot.specs.Plan.{identity_of};
 ghost use Rattle.mc_explore.specs.declared.expectation.Expectation.{Expectation as Expected};
 ghost use Rattle.mc_explore.specs.Right.{AllEndRight};
+ghost use Rattle.mc_output.specs.Text.{AppendsPrefix};
 ghost use Rattle.mc_command.specs.Verdicts.{AreCounted, IsExpectation, MayGiveWanted, GivesAsked, GivesEnds, expected_ends, is_of_slots, lines_of, verdict_of, wanted_of, wanted_or_any};
 
 use clap::ArgMatches;
 use mc_boot::ImageId;
 use mc_explore::{Expectation, RightsOf, Subject, Wanted, all_right, write_rights};
 use mc_options::Refusal;
+use mc_output::WriteFailed;
 use std::io::Write;
 
 /// What the words say that the slots hold at the end, where they say it.
@@ -179,22 +181,24 @@ impl Asked {
     }
 }
 
-/// Writes the lines of what is right, where that was asked.
+/// Writes the lines of what is right, where that was asked, or a beginning of them.
 ///
 /// # Errors
 ///
-/// `Explore` where the output cannot be written.
+/// `WriteFailed` where a write fails or takes no bytes.
 pub fn write_lines<X: Subject, O: Write>(
     rights: &Option<RightsOf<X::Key>>,
     out: &mut O,
-) -> Result<(), Refusal>
+) -> Result<(), WriteFailed>
     ensures whole { OnOk result (Appends (O.contents out.old) (O.contents out.new)
         (lines_of X.subject rights.now)) }
+    ensures prefix { OnErr result (AppendsPrefix (O.contents out.old) (O.contents out.new)
+        (lines_of X.subject rights.now)) }
 {
-    if let Some(rights) = rights {
-        write_rights::<X, O>(rights, out)?;
+    match rights {
+        Some(rights) => write_rights::<X, O>(rights, out),
+        None => Ok(()),
     }
-    Ok(())
 }
 
 /// Whether all rows are right, where that was counted.

@@ -9,6 +9,7 @@ use mc_flash::{FlashError, LayoutError};
 use mc_image::{ImageError, VersionError};
 use mc_imgtool::ToolError;
 use mc_life::{EventError, LifeError, ScriptError};
+use mc_output::WriteFailed;
 use mc_trace::TraceError;
 use std::io::Write;
 use thiserror::Error;
@@ -103,7 +104,7 @@ pub enum Refusal {
     /// A file cannot be opened or made.
     #[error("E71 Open")]
     Open,
-    /// The help, or the output of a command, cannot be written.
+    /// The help, or the output of a command that is no page of rows, cannot be written.
     #[error("E25 Write")]
     Write,
     /// There is no memory to read the command line.
@@ -118,6 +119,16 @@ impl From<ExploreError> for Refusal {
 
     fn from(error: ExploreError) -> Self {
         Refusal::Explore(error)
+    }
+}
+
+impl From<WriteFailed> for Refusal {
+    ghost use Rattle.mc_options.specs.declared.refusal.Refusal.TheVariants.{Write};
+
+    ghost from_gives = { λ _ refusal. refusal ≡ Write };
+
+    fn from(_: WriteFailed) -> Self {
+        Refusal::Write
     }
 }
 

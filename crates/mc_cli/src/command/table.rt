@@ -735,8 +735,8 @@ confirm itself to be taken back: each image where it was at the start.";
 const AFTER_CENSUS: &str = "\
 Seven lines: how many schedules of at most K power cuts can occur, how many of them have each RESULT
 (boot, none, panic, fault), the most operations of a last boot, and the first schedule whose result is
-not boot, or none. They are not listed, so that even K of 16 takes less than a second on most layouts;
-with the grain unit and large images it may take half a minute and 300 MB.
+not boot, or none. They are not listed, so that even K of 16 takes some hundredths of a second and a
+few megabytes, with the grain unit too.
 Where something is expected of the slots, two lines more: how many schedules boot with the expected
 images, and the first that does not. --all-right expects of two images the named one in the primary
 at the end and the other in the secondary; that takes a second census.

@@ -117,7 +117,7 @@ fn count<'a, X: OfStart<'a> + Countable>(
 ///
 /// # Errors
 ///
-/// Those of `count`; `Explore` where the output cannot be written. With `--all-boot` also `NotAllBoot` where one does not end
+/// Those of `count`; `Write` where the output cannot be written. With `--all-boot` also `NotAllBoot` where one does not end
 /// in a boot, and with `--all-right` `NotAllRight` where one is not right; the output is written then.
 pub fn run<'a, X: Explorable + OfStart<'a> + Countable, O: Write>(
     wanted: &'a Wanted<X::Choice>,

@@ -16,13 +16,14 @@ use crate::verdict::{Asked, right_if_asked, write_lines};
 use clap::ArgMatches;
 use mc_boot::ImageId;
 use mc_explore::{
-    Expectation, OfStart, RightsOf, Start, TallyOf, TreeExplorer, all_boot, survey_rows,
-    write_rows, write_tally,
+    Expectation, ExploreError, OfStart, RightsOf, Start, TallyOf, TreeExplorer, all_boot,
+    survey_rows, write_rows, write_tally,
 };
 use mc_flash::JournalFlash;
 use mc_options::{
     ExploreOptions, RangeOptions, Refusal, Source, explore_options, flash_options, read_start,
 };
+use mc_output::WriteFailed;
 use std::alloc::Global;
 use std::io::Write;
 use std::rt::Files;
@@ -151,7 +152,10 @@ fn print<'a, X: Explorable + OfStart<'a>, O: Write + Drop>(
         exploration.extent.limit,
         &mut blocks,
     )?;
-    Ok(finish(blocks)?)
+    match finish(blocks) {
+        Ok(written) => Ok(written),
+        Err(WriteFailed) => Err(Refusal::Explore(ExploreError::Write)),
+    }
 }
 
 /// Counts the rows of the page, and how many of them are right.
@@ -221,7 +225,8 @@ pub fn ask<X: Explorable, F: Files>(
 ///
 /// # Errors
 ///
-/// `Expectation`; `Explore` where memory failed, or the output cannot be written. What is asked of the rows is refused as of a survey,
+/// `Expectation`; `Explore` where memory failed, or the page cannot be written; `Write` of the lines after it. What is asked of the rows is
+/// refused as of a survey,
 /// once the page is out.
 pub fn run<'a, X: Explorable + OfStart<'a>, O: Write>(
     exploration: &'a Exploration<X::Choice, X::Cursor, X::Key>,
@@ -247,7 +252,7 @@ pub fn run<'a, X: Explorable + OfStart<'a>, O: Write>(
 ///
 /// # Errors
 ///
-/// `Expectation`; `Explore` where memory failed or the output cannot be written.
+/// `Expectation`; `Explore` where memory failed; `Write`.
 /// With `--all-boot` also `NotAllBoot` where a row does not end in a boot, with `--all-right` `NotAllRight` where one is not right,
 /// and with either `NotWhole` where the page would go on; the output is written then.
 pub fn survey<'a, X: Explorable + OfStart<'a>, O: Write>(
