@@ -116,6 +116,7 @@ fn with_value<'a>(argument: Arg<'a>, word: &'static Word) -> Arg<'a> {
         Takes::Nothing => argument.long(word.name).action(ArgAction::SetTrue),
         Takes::Itself => argument,
         Takes::Value(shown) => with_name(argument, word.name, shown),
+        Takes::Values(shown) => { with_name(argument, word.name, shown).action(ArgAction::Append) }
         Takes::OneOf(shown, values) => with_values(with_name(argument, word.name, shown), values),
     }
 }

@@ -98,6 +98,9 @@ pub enum Refusal {
     /// Of all numbers of cuts: flashes that 16 cuts leave may lead to more.
     #[error("E87 MoreCuts")]
     MoreCuts,
+    /// A verdict is asked of a layout with which the boot loader swaps nothing.
+    #[error("E89 NeverSwaps")]
+    NeverSwaps,
     /// A file of a layout has a line that is none of its options.
     #[error("E88 LayoutFile")]
     LayoutFile,
@@ -152,6 +155,7 @@ impl Refusal {
             | Refusal::SameFile
             | Refusal::InUse
             | Refusal::LayoutFile
+            | Refusal::NeverSwaps
             | Refusal::Layout(_)
             | Refusal::Schedule(_)
             | Refusal::Campaign(_)

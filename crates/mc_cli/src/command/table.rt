@@ -113,6 +113,8 @@ pub enum Takes {
     Itself,
     /// A value, by what help calls it.
     Value(&'static str),
+    /// A value, by what help calls it, each time that it is given.
+    Values(&'static str),
     /// One of some values, by what help calls it.
     OneOf(&'static str, &'static [&'static str]),
 }
@@ -276,10 +278,11 @@ static LAYOUT: [Word; 7] = [
         help: "Sectors of the secondary slot",
         ..NUMBER
     },
-    // The words of the file are put in its place before clap sees them.
+    // The words of the file stand beside it when clap sees them.
     Word {
         name: "layout",
         help: "The six from a file: these options, one a line, # before a comment",
+        takes: Takes::Values("FILE"),
         ..FILE
     },
 ];
@@ -530,7 +533,7 @@ static VERDICT: [Word; 4] = [
     },
     Word {
         name: "all-right",
-        help: "Refuse, after the counts, where the images are not those expected",
+        help: "Refuse, after the counts, where the images are not those of a swap",
         ..FLAG
     },
     EXPECT_PRIMARY,

@@ -66,7 +66,7 @@ fn rights_if<'a, X: OfStart<'a> + Countable>(
 ///
 /// # Errors
 ///
-/// `Source`, `Layout`, the numbers and `Version` of the words; what `read_start` refuses.
+/// `Source`, `Layout`, the numbers and `Version` of the words; `NeverSwaps`; what `read_start` refuses.
 pub fn read<X: Explorable, F: Files>(
     files: &F,
     alloc: Global,
@@ -81,6 +81,7 @@ pub fn read<X: Explorable, F: Files>(
     };
     let cuts = census_options(arguments)?;
     let asked = Asked::read(arguments)?;
+    asked.check(&options.layout)?;
     let choice = X::chosen(arguments);
     Ok(Wanted {
         choice,

@@ -1,13 +1,13 @@
 //! `explore`, `campaign` and `survey`: every schedule of power cuts, or every campaign of two rounds, with what the boots after them
 //! do, and how many do what.
-ghost use Rattle.std.specs.Prelude.{◌≡◌, ◌++◌, ◌≤◌, Err, IfOk, is_none, option_map};
+ghost use Rattle.std.specs.Prelude.{◌≡◌, ◌++◌, ◌≤◌, Err, IfOk, option_map};
 ghost use Rattle.std.specs.Io.KnownBytes.{Appends};
 ghost use Rattle.clap.specs.Matches.{found_of};
 ghost use Rattle.mc_explore.specs.Pages.{Page};
 ghost use Rattle.mc_explore.specs.Survey.{tally_by, tally_text};
 ghost use Rattle.mc_explore.specs.declared.expectation.Expectation.{Expectation as Expected};
 ghost use Rattle.mc_command.specs.Sessions.{Explores, PrintsUntil, TalliesAsked, TalliesUntil, GivesExploration, back_from, ends_of};
-ghost use Rattle.mc_command.specs.Verdicts.{AreCounted, IsExpectation, IsVerdict, lines_of};
+ghost use Rattle.mc_command.specs.Verdicts.{AreCounted, IsExpectation, IsVerdict, is_whole, lines_of};
 ghost use Rattle.mc_boot.specs.Plan.{identity_of};
 
 use super::{finish, in_blocks};
@@ -65,11 +65,13 @@ pub fn ends(back: bool, named: Option<(ImageId, ImageId)>) -> Option<(ImageId, I
 ///
 /// # Errors
 ///
-/// `Source`, `Layout`, the numbers, `CursorOptions`, `Cursor`, `Schedule` and `Campaign` of the words; what `read_start` refuses.
+/// `Source`, `Layout`, the numbers, `CursorOptions`, `Cursor`, `Schedule` and `Campaign` of the words; `NeverSwaps`; what `read_start`
+/// refuses.
 fn read<X: Explorable, F: Files>(
     files: &F,
     alloc: Global,
     arguments: &ArgMatches<'_>,
+    asked: &Asked,
 ) -> Result<Exploration<X::Choice, X::Cursor, X::Key>, Refusal>
     ensures given { IfOk result (GivesExploration X.subject X.IsChoice X.is_taken_back
         (found_of arguments.now)) }
@@ -81,6 +83,7 @@ fn read<X: Explorable, F: Files>(
     };
     let extent = explore_options(arguments)?;
     let range = X::range(arguments)?;
+    asked.check(&options.layout)?;
     let choice = X::chosen(arguments);
     Ok(Exploration {
         choice,
@@ -215,7 +218,7 @@ pub fn ask<X: Explorable, F: Files>(
     ensures { IfOk result (λ given. (given.1.extent.cuts ≤ 16) × (1 ≤ given.1.extent.limit)) }
 {
     let asked = Asked::read(arguments)?;
-    let exploration = read::<X, F>(files, alloc, arguments)?;
+    let exploration = read::<X, F>(files, alloc, arguments, &asked)?;
     Ok((asked, exploration))
 }
 
@@ -274,7 +277,7 @@ pub fn survey<'a, X: Explorable + OfStart<'a>, O: Write>(
 ///
 /// # Errors
 ///
-/// The first of `NotAllBoot`, `NotAllRight` and `NotWhole` that was asked for and does not hold.
+/// The first of `NotAllBoot`, `NotAllRight` and `NotWhole` that was asked for and does not hold. No rows at all give no verdict.
 fn judge<X: Explorable>(
     tally: &TallyOf<X::Cursor>,
     rights: &Option<RightsOf<X::Key>>,
@@ -282,9 +285,9 @@ fn judge<X: Explorable>(
 ) -> Result<(), Refusal>
     ensures { (e : Expected) (page : Page X.Shown X.Cursor) → tally.now
         ≡ tally_by X.subject.ends page → AreCounted X.subject e page.rows rights.now
-        → IsVerdict X.subject.ends asked.now e page.rows rights.now (is_none page.goes_on) result }
+        → IsVerdict X.subject.ends asked.now e page.rows rights.now (is_whole page) result }
 {
     let boots = all_boot::<X>(tally);
     let right = right_if_asked::<X>(rights);
-    asked.verdict(boots, right, tally.next.is_none())
+    asked.verdict(boots, right, tally.next.is_none() && tally.rows != 0)
 }
