@@ -10,6 +10,8 @@ mod disk;
 mod engines;
 mod exports;
 mod source;
+#[cfg(test)]
+mod tests;
 
 pub use command::{Lengths, mcsim_run};
 pub use exports::{

@@ -1,7 +1,7 @@
 //! Command lines whose reads and writes fail, each at each call.
-use super::support::{contents, in_full, ran_over, same_at, text_of, words_of};
+use super::support::{broken_over, contents, in_full, ran_over, same_at, words_of};
 use mc_command::run;
-use mc_fixtures::{FailingWriter, Failure, Fault, FaultyFile, FaultyFiles, PAYLOAD, PLAIN_IMAGE};
+use mc_fixtures::{Failure, Fault, FaultyFile, FaultyFiles, PAYLOAD, PLAIN_IMAGE};
 use std::alloc::Global;
 use std::cell::RefCell;
 use std::process::Abort;
@@ -149,25 +149,7 @@ fn ends_after(
         writes: usize::MAX,
         fault: Fault::Error,
     };
-    let mut out = FailingWriter {
-        taken: Vec::new(alloc),
-        failure: Failure {
-            calls,
-            fault: Fault::Error,
-            lasts: true,
-        },
-    };
-    let words = words_of(rt, alloc, line);
-    let (mut input, mut err) = ([].as_slice(), Vec::new(alloc));
-    let status = run(
-        &files,
-        alloc,
-        words.as_slice(),
-        &mut input,
-        &mut out,
-        &mut err,
-    );
-    (status, text_of(rt, err), out.taken)
+    broken_over(rt, alloc, &files, line, calls)
 }
 
 /// Looks how a command line ends that cannot write these bytes from some byte on: with the first of them out.

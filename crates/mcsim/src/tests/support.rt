@@ -1,6 +1,9 @@
 //! What the tests of command lines share: files in memory, and sessions over them.
 use mc_command::run;
-use mc_fixtures::{FIRST_TOLD, Fault, FaultyFiles, GOOD_LINE, SECOND_TOLD, change_at, named};
+use mc_fixtures::{
+    FIRST_TOLD, FailingWriter, Failure, Fault, FaultyFiles, GOOD_LINE, SECOND_TOLD, change_at,
+    named,
+};
 use sha2::{Digest, Sha256};
 use std::alloc::Global;
 use std::cell::RefCell;
@@ -80,6 +83,35 @@ pub fn outcome_over<F: Files, R: Read>(
         err: text_of(rt, err),
         written: Vec::new(alloc),
     }
+}
+
+/// How a command line ends whose standard output fails after so many bytes: its status, what it says of it, and what is out.
+pub fn broken_over<F: Files>(
+    rt: &impl Abort,
+    alloc: Global,
+    files: &F,
+    line: &str,
+    calls: usize,
+) -> (u8, String, Vec<u8>) {
+    let mut out = FailingWriter {
+        taken: Vec::new(alloc),
+        failure: Failure {
+            calls,
+            fault: Fault::Error,
+            lasts: true,
+        },
+    };
+    let words = words_of(rt, alloc, line);
+    let (mut input, mut err) = ([].as_slice(), Vec::new(alloc));
+    let status = run(
+        files,
+        alloc,
+        words.as_slice(),
+        &mut input,
+        &mut out,
+        &mut err,
+    );
+    (status, text_of(rt, err), out.taken)
 }
 
 /// What a command line prints over the real files, with these bytes as standard input.

@@ -1,6 +1,6 @@
 //! `vectors`: the distinct flashes that cuts leave. Tables and patch are those of a boot loader that shares no code with this repository,
 //! stopped after each operation.
-use super::support::{Table, all_play, contents, same_at, shown_of, sum_of, text_of};
+use super::support::{Table, all_play, broken_over, contents, same_at, shown_of, sum_of, text_of};
 use mc_fixtures::named;
 use sha2::{Digest, Sha256};
 use std::alloc::Global;
@@ -121,6 +121,14 @@ fn holds_flashes<H: Abort + Files + AllocGlobal>(rt: &H, alloc: Global, folder: 
     }
 }
 
+/// Looks how it ends where not all of how many flashes there are can be written.
+fn breaks_off<H: Abort + Files>(rt: &H, alloc: Global, line: &str) {
+    let (status, err, out) = broken_over(rt, alloc, rt, line, 8);
+    let found = (status, err.as_str(), out.as_slice());
+    let wanted = (3, "mcsim: E25 Write\n", b"flashes ".as_slice());
+    same_at(rt, &line, &found, &wanted)
+}
+
 /// What is asked of a folder, and what is printed of it.
 static ASKED: [(&str, &str); 3] = [
     ("--cuts all", "flashes 13\nall yes\n"),
@@ -147,6 +155,8 @@ fn writes_once<H: Abort + Files + AllocGlobal>(
         holds_flashes(rt, alloc, folder);
     }
     prints(rt, alloc, line.as_str(), "! mcsim: E86 InUse\nexit 2\n");
+    fs::remove_dir_all(rt, folder).expect(rt, "a folder");
+    breaks_off(rt, alloc, line.as_str());
     fs::remove_dir_all(rt, folder).expect(rt, "a folder")
 }
 
