@@ -220,7 +220,7 @@ pub fn census(
     let mut text = Vec::new(alloc);
     match write_census::<OneRound, Vec<u8>>(&census, &mut text) {
         Ok(()) => Ok(text),
-        Err(error) => Err(Refusal::Explore(error)),
+        Err(_) => Err(Refusal::Memory),
     }
 }
 

@@ -5,8 +5,8 @@ use clap::{Arg, ArgAction, ArgMatches, Command, Error};
 use std::alloc::{AllocError, Global};
 use table::{Group, Subcommand, Takes, Word};
 
-/// The program's version, and the kit whose logic proved it (`rt version`).
-static VERSION: &str = "0.1.0 (proved by rattle-kit-13f logic dac8208d650f15bf)";
+/// The program's version. Of proofs it says nothing: a build without them has it too.
+static VERSION: &str = "0.1.0";
 
 static ABOUT: &str =
     "Checks MCUboot upgrades against power loss, and makes and inspects hash-only MCUboot images";
@@ -116,6 +116,7 @@ fn with_value<'a>(argument: Arg<'a>, word: &'static Word) -> Arg<'a> {
         Takes::Nothing => argument.long(word.name).action(ArgAction::SetTrue),
         Takes::Itself => argument,
         Takes::Value(shown) => with_name(argument, word.name, shown),
+        Takes::Values(shown) => { with_name(argument, word.name, shown).action(ArgAction::Append) }
         Takes::OneOf(shown, values) => with_values(with_name(argument, word.name, shown), values),
     }
 }

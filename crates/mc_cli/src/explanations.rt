@@ -371,7 +371,7 @@ static EXPLORATIONS: [Explanation; 13] = [
     },
 ];
 
-static COMMANDS: [Explanation; 18] = [
+static COMMANDS: [Explanation; 19] = [
     Explanation {
         number: 70,
         name: "SourceOptions",
@@ -411,15 +411,15 @@ static COMMANDS: [Explanation; 18] = [
         number: 76,
         name: "NotAllRight",
         status: 1,
-        when: "With --all-right: a schedule that was counted ends otherwise than in a boot with the expected images.",
+        when: "With --all-right or an expectation: a schedule that was counted ends otherwise than in a boot with the expected images.",
         remedy: "Look for its row, first-not-right, with explore.",
     },
     Explanation {
         number: 77,
         name: "NotWhole",
         status: 1,
-        when: "With --all-boot or --all-right: only a part of the rows was counted, so there is no verdict.",
-        remedy: "Give --all, or count the rest by its cursor.",
+        when: "A verdict is asked, and only a part of the rows was counted, or none.",
+        remedy: "Give --all, or count the rest by its cursor; look whether a range has rows.",
     },
     Explanation {
         number: 78,
@@ -497,5 +497,12 @@ static COMMANDS: [Explanation; 18] = [
         status: 2,
         when: "A line of the file of --layout is none of the six options of a layout with its number.",
         remedy: "Give a line for each, as --sector 4096; what follows a # is a comment.",
+    },
+    Explanation {
+        number: 89,
+        name: "NeverSwaps",
+        status: 2,
+        when: "A verdict is asked of a layout with which MCUboot swaps nothing: --max-sectors is below --primary.",
+        remedy: "Raise CONFIG_BOOT_MAX_IMG_SECTORS, and --max-sectors with it, or make the slots smaller.",
     },
 ];

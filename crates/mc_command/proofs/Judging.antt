@@ -3,7 +3,7 @@ use Rattle.std.proofs.Common.{Bool, List, None, Option, Result, Some, false, not
 use Rattle.std.specs.Prelude.{IfSome, is_none, is_some}
 use Rattle.mc_boot.specs.Outcome.{Report}
 use Rattle.mc_explore.specs.{Right.{AllEndRight}, Survey.{AllEndInBoot}, declared.expectation.Expectation.{Expectation}, declared.rights.RightsOf.{RightsOf}}
-use Rattle.mc_command.specs.{Verdicts.{IsVerdict, verdict_of}, declared.verdict.Asked.{Asked}}
+use Rattle.mc_command.specs.{Verdicts.{IsVerdict, is_of_slots, verdict_of}, declared.verdict.Asked.{Asked}}
 use Rattle.mc_options.specs.declared.refusal.Refusal.{Refusal}
 
 -- That holds where it was counted.
@@ -20,7 +20,7 @@ none_is (Some x) false is = refl
 
 module _ {R K : Type 0} (ends : R → Report) (a : Asked) (e : Expectation) (rows : List R) (rights : Option (RightsOf K)) where
   -- By what was asked, and by what holds.
-  by : (boot right : Bool) → a.all_boot ≡ boot → a.all_right ≡ right → (boots all whole : Bool) → ((boots ≡ true) ↔ AllEndInBoot ends rows)
+  by : (boot right : Bool) → a.all_boot ≡ boot → is_of_slots a ≡ right → (boots all whole : Bool) → ((boots ≡ true) ↔ AllEndInBoot ends rows)
       → ((all ≡ true) ↔ IfSome rights (λ _. AllEndRight ends e rows)) → IsVerdict ends a e rows rights whole (verdict_of a boots all whole)
   by true right asks_boot asks_right false all whole boots_is all_is = rw asks_boot (refl, λ boot. let no : false ≡ true = boots_is.1 boot in absurd (cc))
   by true true asks_boot asks_right true false whole boots_is all_is =
@@ -37,4 +37,4 @@ module _ {R K : Type 0} (ends : R → Report) (a : Asked) (e : Expectation) (row
 
   pub is_verdict : (boots all whole : Bool) (r : Result (Unit {0}) Refusal) → ((boots ≡ true) ↔ AllEndInBoot ends rows) → ((all ≡ true) ↔ IfSome rights (λ _. AllEndRight ends e rows))
       → r ≡ verdict_of a boots all whole → IsVerdict ends a e rows rights whole r
-  is_verdict boots all whole r boots_is all_is is = rw is (by a.all_boot a.all_right refl refl boots all whole boots_is all_is)
+  is_verdict boots all whole r boots_is all_is is = rw is (by a.all_boot (is_of_slots a) refl refl boots all whole boots_is all_is)

@@ -1,9 +1,10 @@
 -- What is to be right at the end, and how a survey and a census end.
-use Rattle.std.specs.Prelude.{◌≡◌, ℕ, Bool, true, false, List, Option, Some, None, [], Result, Ok, Err, IfSome, codes, if◌then◌else◌, is_some, not, ◌&&◌, ◌||◌}
+use Rattle.std.specs.Prelude.{◌≡◌, ℕ, Bool, true, false, List, Option, Some, None, [], Result, Ok, Err, IfSome, codes, if◌then◌else◌, is_none, is_some, length, not, ◌&&◌, ◌||◌, ◌<◌, ◌==◌}
 use Rattle.clap.specs.{Words.{first_value}, declared.parser.matches.Found.{Found}}
 use Rattle.mc_boot.specs.Outcome.{Report}
-use Rattle.mc_explore.specs.{Right.{AllEndRight, Wants, rights_by, rights_text}, Subject.{Subject}, Survey.{AllEndInBoot}}
+use Rattle.mc_explore.specs.{Pages.{Page}, Right.{AllEndRight, Wants, rights_by, rights_text}, Subject.{Subject}, Survey.{AllEndInBoot}}
 use Rattle.mc_explore.specs.{declared.expectation.Expectation.{Expectation}, declared.expectation.Wanted.{Wanted}, declared.rights.RightsOf.{RightsOf}}
+use Rattle.mc_flash.specs.Geometry.{Geometry}
 use Rattle.mc_image.specs.Valid.{Identity}
 use Rattle.mc_options.specs.{Arguments.{IsFlag}, declared.refusal.Refusal.{Refusal}}
 use Rattle.mc_command.specs.{declared.verdict.Asked.{Asked}, declared.verdict.Ends.{Ends}}
@@ -29,6 +30,14 @@ pub record GivesAsked (found : Found) (a : Asked) : Type 0 where
 -- Something is asked of the slots.
 abbrev pub is_of_slots : Asked → Bool
 is_of_slots a = is_some a.ends.primary || is_some a.ends.secondary || a.all_right
+
+-- Anything is asked.
+abbrev pub is_any : Asked → Bool
+is_any a = is_of_slots a || a.all_boot
+
+-- MCUboot swaps nothing where a slot has more sectors than the trailer has room for; the secondary has no more than the primary.
+abbrev pub NeverSwaps : Geometry → Type 0
+NeverSwaps g = g.max_sectors < g.primary
 
 -- What is wanted of a slot: what is known of it; else, where each row is to be right, the image that is to lie there at the end.
 abbrev pub wanted_of : Option Wanted → Bool → Option Identity → Option Wanted
@@ -73,21 +82,25 @@ abbrev pub lines_of : {C K R U : Type 0} → Subject C K R U → Option (RightsO
 lines_of x None = []
 lines_of x (Some rights) = rights_text x rights
 
+-- There are rows, and the page does not go on.
+abbrev pub is_whole : {R U : Type 0} → Page R U → Bool
+is_whole page = is_none page.goes_on && not (length page.rows == 0)
+
 -- The first of what was asked for that does not hold.
 abbrev pub verdict_of : Asked → Bool → Bool → Bool → Result (Unit {0}) Refusal
 verdict_of a boots right whole =
     if a.all_boot && not boots then Err refusals.NotAllBoot
-    else if a.all_right && not right then Err refusals.NotAllRight
-    else if (a.all_boot || a.all_right) && not whole then Err refusals.NotWhole
+    else if is_of_slots a && not right then Err refusals.NotAllRight
+    else if is_any a && not whole then Err refusals.NotWhole
     else Ok tt
 
 -- How a survey or a census of some rows ends: with the first of what was asked for that does not hold. A part of the rows to come is
 -- no verdict.
 abbrev pub IsVerdict : {R K : Type 0} → (R → Report) → Asked → Expectation → List R → Option (RightsOf K) → Bool → Result (Unit {0}) Refusal → Type 0
 IsVerdict ends a e rows rights whole (Ok done) =
-    (a.all_boot ≡ true → AllEndInBoot ends rows) × (a.all_right ≡ true → IfSome rights (λ _. AllEndRight ends e rows))
-    × ((a.all_boot || a.all_right) ≡ true → whole ≡ true)
+    (a.all_boot ≡ true → AllEndInBoot ends rows) × (is_of_slots a ≡ true → IfSome rights (λ _. AllEndRight ends e rows))
+    × (is_any a ≡ true → whole ≡ true)
 IsVerdict ends a e rows rights whole (Err refusals.NotAllBoot) = (a.all_boot ≡ true) × (AllEndInBoot ends rows → ⊥)
-IsVerdict ends a e rows rights whole (Err refusals.NotAllRight) = (a.all_right ≡ true) × (AllEndRight ends e rows → ⊥)
-IsVerdict ends a e rows rights whole (Err refusals.NotWhole) = ((a.all_boot || a.all_right) ≡ true) × (whole ≡ false)
+IsVerdict ends a e rows rights whole (Err refusals.NotAllRight) = (is_of_slots a ≡ true) × (AllEndRight ends e rows → ⊥)
+IsVerdict ends a e rows rights whole (Err refusals.NotWhole) = (is_any a ≡ true) × (whole ≡ false)
 IsVerdict ends a e rows rights whole (Err refusal) = ⊥

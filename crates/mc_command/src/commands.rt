@@ -22,6 +22,7 @@ pub mod vectors;
 pub mod verify;
 
 use mc_explore::ExploreError;
+use mc_output::WriteFailed;
 use std::alloc::Global;
 use std::io::{BufWriter, Write};
 
@@ -43,11 +44,11 @@ fn in_blocks<O: Write + Drop>(alloc: Global, out: O) -> Result<BufWriter<O>, Exp
 ///
 /// # Errors
 ///
-/// `Write`.
-fn finish<O: Write + Drop>(blocks: BufWriter<O>) -> Result<O, ExploreError>
+/// `WriteFailed`.
+fn finish<O: Write + Drop>(blocks: BufWriter<O>) -> Result<O, WriteFailed>
     ensures { IfOk result (λ out. Keeps (writer_contents O.contents blocks) (O.contents out)) }
 {
-    let mut out = blocks.into_inner().map_err(|_| ExploreError::Write)?;
-    out.flush().map_err(|_| ExploreError::Write)?;
+    let mut out = blocks.into_inner().map_err(|_| WriteFailed)?;
+    out.flush().map_err(|_| WriteFailed)?;
     Ok(out)
 }

@@ -1,16 +1,19 @@
 //! What the words ask of each row that is counted, and whether it is so.
-ghost use Rattle.std.specs.Prelude.{◌≡◌, ◌↔◌, ◌||◌, true, IfOk, IfSome, List, OnOk, option_map};
+ghost use Rattle.std.specs.Prelude.{◌≡◌, ◌↔◌, true, IfErr, IfOk, IfSome, IsErrOf, List, OnErr, OnOk, option_map};
 ghost use Rattle.std.specs.Io.KnownBytes.{Appends};
 ghost use Rattle.clap.specs.Matches.{found_of};
 ghost use Rattle.mc_boot.specs.Plan.{identity_of};
 ghost use Rattle.mc_explore.specs.declared.expectation.Expectation.{Expectation as Expected};
 ghost use Rattle.mc_explore.specs.Right.{AllEndRight};
-ghost use Rattle.mc_command.specs.Verdicts.{AreCounted, IsExpectation, MayGiveWanted, GivesAsked, GivesEnds, expected_ends, is_of_slots, lines_of, verdict_of, wanted_of, wanted_or_any};
+ghost use Rattle.mc_output.specs.Text.{AppendsPrefix};
+ghost use Rattle.mc_command.specs.Verdicts.{AreCounted, IsExpectation, MayGiveWanted, GivesAsked, GivesEnds, expected_ends, is_any, is_of_slots, lines_of, NeverSwaps, verdict_of, wanted_of, wanted_or_any};
 
 use clap::ArgMatches;
 use mc_boot::ImageId;
 use mc_explore::{Expectation, RightsOf, Subject, Wanted, all_right, write_rights};
+use mc_flash::Layout;
 use mc_options::Refusal;
+use mc_output::WriteFailed;
 use std::io::Write;
 
 /// What the words say that the slots hold at the end, where they say it.
@@ -25,7 +28,7 @@ pub struct Ends {
 pub struct Asked {
     /// What the slots are to hold at the end.
     pub ends: Ends,
-    /// Whether the command is refused where a row is not right.
+    /// Whether each row is to be right also where nothing is said of a slot: with the image that is to lie there.
     pub all_right: bool,
     /// Whether it is refused where a row does not end in a boot.
     pub all_boot: bool,
@@ -124,7 +127,7 @@ impl Asked {
 
     /// Whether anything is asked.
     pub fn is_any(&self) -> bool
-        ensures { result ≡ (is_of_slots self.now || self.now.all_boot) }
+        ensures { result ≡ is_any self.now }
     {
         self.is_of_slots() || self.all_boot
     }
@@ -157,44 +160,63 @@ impl Asked {
         }
     }
 
+    /// Looks whether a layout can have a verdict: with fewer sectors in the trailer than in a slot the boot loader swaps nothing.
+    ///
+    /// # Errors
+    ///
+    /// `NeverSwaps`.
+    pub fn check(&self, layout: &Layout) -> Result<(), Refusal>
+        ensures refused { IsErrOf result Refusal.NeverSwaps
+            ↔ ((is_any self.now ≡ true) × NeverSwaps layout.now) }
+        ensures err { IfErr result (λ e. e ≡ Refusal.NeverSwaps) }
+    {
+        if self.is_any() && layout.max_sectors() < layout.primary() {
+            return Err(Refusal::NeverSwaps);
+        }
+        Ok(())
+    }
+
     /// The verdict on rows of which that was found: whether each boots, whether each is right, and whether they are all that there
     /// are.
     ///
     /// # Errors
     ///
-    /// The first of `NotAllBoot`, `NotAllRight` and `NotWhole` that was asked for and does not hold.
+    /// The first of `NotAllBoot`, `NotAllRight` and `NotWhole` that was asked for and does not hold. What is said of a slot is asked of
+    /// each row.
     pub fn verdict(&self, boots: bool, right: bool, whole: bool) -> Result<(), Refusal>
         ensures { result ≡ verdict_of self.now boots right whole }
     {
         if self.all_boot && !boots {
             return Err(Refusal::NotAllBoot);
         }
-        if self.all_right && !right {
+        if self.is_of_slots() && !right {
             return Err(Refusal::NotAllRight);
         }
-        if (self.all_boot || self.all_right) && !whole {
+        if self.is_any() && !whole {
             return Err(Refusal::NotWhole);
         }
         Ok(())
     }
 }
 
-/// Writes the lines of what is right, where that was asked.
+/// Writes the lines of what is right, where that was asked, or a beginning of them.
 ///
 /// # Errors
 ///
-/// `Explore` where the output cannot be written.
+/// `WriteFailed` where a write fails or takes no bytes.
 pub fn write_lines<X: Subject, O: Write>(
     rights: &Option<RightsOf<X::Key>>,
     out: &mut O,
-) -> Result<(), Refusal>
+) -> Result<(), WriteFailed>
     ensures whole { OnOk result (Appends (O.contents out.old) (O.contents out.new)
         (lines_of X.subject rights.now)) }
+    ensures prefix { OnErr result (AppendsPrefix (O.contents out.old) (O.contents out.new)
+        (lines_of X.subject rights.now)) }
 {
-    if let Some(rights) = rights {
-        write_rights::<X, O>(rights, out)?;
+    match rights {
+        Some(rights) => write_rights::<X, O>(rights, out),
+        None => Ok(()),
     }
-    Ok(())
 }
 
 /// Whether all rows are right, where that was counted.

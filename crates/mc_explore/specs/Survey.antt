@@ -101,8 +101,8 @@ tally_of = tally_by report_of
 -- Six lines of numbers.
 abbrev pub counts_text : {U : Type 0} → TallyOf U → List ℕ
 counts_text t =
-    (codes "rows " ++ (decimal t.rows ++ (codes "\nboot " ++ (decimal t.boot ++ (codes "\nnone " ++ (decimal t.none ++ codes "\n"))))))
-    ++ (codes "panic " ++ (decimal t.panic ++ (codes "\nfault " ++ (decimal t.fault ++ (codes "\nmost-ops " ++ (decimal t.most_ops ++ codes "\n"))))))
+    codes "rows " ++ (decimal t.rows ++ (codes "\nboot " ++ (decimal t.boot ++ (codes "\nnone " ++ (decimal t.none
+    ++ (codes "\npanic " ++ (decimal t.panic ++ (codes "\nfault " ++ (decimal t.fault ++ (codes "\nmost-ops " ++ (decimal t.most_ops ++ codes "\n")))))))))))
 
 -- And the last line of the page.
 abbrev pub tally_text : {C K R U : Type 0} → Subject C K R U → TallyOf U → List ℕ

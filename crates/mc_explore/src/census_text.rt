@@ -1,14 +1,12 @@
 //! Censuses as text.
-ghost use Rattle.std.specs.Prelude.{◌≡◌, ◌+◌, ◌≤◌, ◌++◌, codes, length, IfErr, OnErr, OnOk};
+ghost use Rattle.std.specs.Prelude.{◌≡◌, ◌+◌, ◌≤◌, ◌++◌, codes, length, OnErr, OnOk};
 ghost use Rattle.std.specs.Io.KnownBytes.{Appends};
 ghost use Rattle.mc_explore.specs.Census.{census_text, count_text, counts_text, key_or_none};
 ghost use Rattle.mc_output.specs.Text.{AppendsPrefix};
 
 use crate::census::CensusOf;
-use crate::error::ExploreError;
-use crate::output::write_text;
 use crate::subject::Subject;
-use mc_start::{Line, MOST_LINE};
+use mc_output::{Line, MOST_LINE, WriteFailed, write_line};
 use std::io::Write;
 
 /// Adds a number of rows to a line, with `>=` before it where it was cut off.
@@ -78,16 +76,15 @@ pub fn census_line<X: Subject>(census: &CensusOf<X::Key>) -> Line
 ///
 /// # Errors
 ///
-/// `Write` where a write fails or takes no bytes.
+/// `WriteFailed` where a write fails or takes no bytes.
 pub fn write_census<X: Subject, W: Write>(
     census: &CensusOf<X::Key>,
     writer: &mut W,
-) -> Result<(), ExploreError>
+) -> Result<(), WriteFailed>
     ensures whole { OnOk result (Appends (W.contents writer.old) (W.contents writer.new)
         (census_text X.subject census.now)) }
     ensures prefix { OnErr result (AppendsPrefix (W.contents writer.old) (W.contents writer.new)
         (census_text X.subject census.now)) }
-    ensures err { IfErr result (λ e. e ≡ ExploreError.Write) }
 {
-    write_text(writer, census_line::<X>(census).as_str().as_bytes())
+    write_line(writer, &census_line::<X>(census))
 }

@@ -49,7 +49,6 @@ pub use mc_start::{
     StartError, StartField, next_field,
 };
 pub use one_round::{OneRound, Summary};
-pub use output::write_text;
 pub use pages::{write_page, write_page_until, write_rows};
 pub use replays::{ReplayError, flash_at_cut, replay, replay_on};
 pub use rights::{Rights, RightsOf, all_right, rights_line, write_rights};

@@ -1,5 +1,5 @@
 //! How many schedules of power cuts come to what is right, and the first that does not.
-ghost use Rattle.std.specs.Prelude.{◌≡◌, ◌↔◌, ◌≤◌, length, true, List, IfErr, OnErr, OnOk};
+ghost use Rattle.std.specs.Prelude.{◌≡◌, ◌↔◌, ◌≤◌, length, true, List, OnErr, OnOk};
 ghost use Rattle.std.specs.Io.KnownBytes.{Appends};
 ghost use Rattle.mc_boot.specs.Outcome.{shown};
 ghost use Rattle.mc_output.specs.Text.{AppendsPrefix};
@@ -7,12 +7,11 @@ ghost use Rattle.mc_explore.specs.Right.{AllEndRight, no_rights, one_judged_more
 ghost use Rattle.mc_explore.specs.declared.expectation.Expectation.{Expectation as Expected};
 
 use crate::census_text::{put_count, put_first};
-use crate::error::ExploreError;
 use crate::expectation::Expectation;
-use crate::output::write_text;
 use crate::subject::Subject;
 use mc_boot::Outcome;
-use mc_start::{Line, Schedule};
+use mc_output::{Line, WriteFailed, write_line};
+use mc_start::Schedule;
 use std::io::Write;
 
 /// How many rows come to what is right, cut off at the largest `u128`, and the key of the first of them that does not.
@@ -76,16 +75,15 @@ pub fn rights_line<X: Subject>(rights: &RightsOf<X::Key>) -> Line
 ///
 /// # Errors
 ///
-/// `Write` where a write fails or takes no bytes.
+/// `WriteFailed` where a write fails or takes no bytes.
 pub fn write_rights<X: Subject, W: Write>(
     rights: &RightsOf<X::Key>,
     writer: &mut W,
-) -> Result<(), ExploreError>
+) -> Result<(), WriteFailed>
     ensures whole { OnOk result (Appends (W.contents writer.old) (W.contents writer.new)
         (rights_text X.subject rights.now)) }
     ensures prefix { OnErr result (AppendsPrefix (W.contents writer.old) (W.contents writer.new)
         (rights_text X.subject rights.now)) }
-    ensures err { IfErr result (λ e. e ≡ ExploreError.Write) }
 {
-    write_text(writer, rights_line::<X>(rights).as_str().as_bytes())
+    write_line(writer, &rights_line::<X>(rights))
 }

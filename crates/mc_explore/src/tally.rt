@@ -1,7 +1,8 @@
 //! What the rows of an exploration come to.
-ghost use Rattle.std.specs.Prelude.{◌≡◌, ◌+◌, ◌-◌, ◌*◌, ◌^◌, ◌<◌, ◌≤◌, ◌⊎◌, ◌↔◌, true, Some, IfOk, IfErr, OnOk};
+ghost use Rattle.std.specs.Prelude.{◌≡◌, ◌+◌, ◌-◌, ◌*◌, ◌^◌, ◌<◌, ◌≤◌, ◌⊎◌, ◌↔◌, ◌++◌, decimal, length, true, Some, IfOk, IfErr, OnErr, OnOk};
 ghost use Rattle.std.specs.Io.KnownBytes.{Appends};
 ghost use Rattle.mc_boot.specs.Outcome.{shown};
+ghost use Rattle.mc_output.specs.Text.{AppendsPrefix};
 ghost use Rattle.mc_explore.specs.Rows.{most_for_row};
 ghost use Rattle.mc_explore.specs.Pages.{Page};
 ghost use Rattle.mc_explore.specs.Survey.{AllEndInBoot, IsWithin, Surveys, SurveysUntil, counts_text, no_tally, one_row_more, tally_by, tally_text};
@@ -11,15 +12,14 @@ ghost use Rattle.mc_explore.specs.Subject.{Explores};
 use crate::error::ExploreError;
 use crate::expectation::Expectation;
 use crate::explorer::Explorer;
-use crate::output::write_text;
 use crate::rights::{Rights, RightsOf};
 use crate::source::RowSource;
 use crate::subject::Subject;
 use crate::tree_explorer::TreeExplorer;
 use mc_boot::{BootResult, Outcome};
 use mc_flash::Flash;
-use mc_start::{Cursor, Line, Schedule};
-use std::fmt;
+use mc_output::{Line, MOST_LINE, WriteFailed, write_line};
+use mc_start::{Cursor, Schedule};
 use std::io::Write;
 
 /// How many rows a page would have, how many of them end with each result, and where it would go on.
@@ -84,44 +84,37 @@ pub fn all_boot<X: Subject>(tally: &TallyOf<X::Cursor>) -> bool
     tally.boot == tally.rows
 }
 
-// The first six lines of a tally: how many rows, how many of them with each result, the greatest number of operations.
-#[derive(Clone, Copy)]
-struct Counts<'a, C>(&'a TallyOf<C>);
-
-impl<'a, C: Copy> fmt::Display for Counts<'a, C> {
-    ghost output = { λ counts. Some (counts_text counts.0.now) };
-
-    fn fmt<W: fmt::Write>(&self, f: &mut fmt::Formatter<W>) -> fmt::Result {
-        let rows = self.0.rows;
-        let boot = self.0.boot;
-        let none = self.0.none;
-        write!(f, "rows {rows}\nboot {boot}\nnone {none}\n")?;
-        let panic = self.0.panic;
-        let fault = self.0.fault;
-        let most_ops = self.0.most_ops;
-        write!(f, "panic {panic}\nfault {fault}\nmost-ops {most_ops}\n")
-    }
+// Adds a word, and a number of rows or operations.
+fn put_counted(line: &mut Line, word: &str, count: u32)
+    requires { length line.old + length word.now + 10 ≤ MOST_LINE }
+    ensures text { line.new ≡ line.old ++ (word.now ++ decimal count) }
+    ensures length { length line.new ≤ length line.old + length word.now + 10 }
+{
+    line.put(word);
+    line.put_number(count);
 }
 
-/// Writes seven lines: how many rows, how many of them with each result, the greatest number of operations; then where to go on,
-/// or `end`.
-///
-/// # Errors
-///
-/// `Write` where a write fails or takes no bytes.
-pub fn write_tally<X: Subject, W: Write>(
-    tally: &TallyOf<X::Cursor>,
-    writer: &mut W,
-) -> Result<(), ExploreError>
-    ensures whole { OnOk result (Appends (W.contents writer.old) (W.contents writer.new)
-        (tally_text X.subject tally.now)) }
-    ensures err { IfErr result (λ e. e ≡ ExploreError.Write) }
+// The first six lines of a tally: how many rows, how many of them with each result, the greatest number of operations.
+fn counts_line<C: Copy>(tally: &TallyOf<C>) -> Line
+    ensures text { result ≡ counts_text tally.now }
+    ensures length { length result ≤ 102 }
 {
-    let counts = Counts(tally);
-    if write!(writer, "{counts}").is_err() {
-        return Err(ExploreError::Write);
-    }
     let mut line = Line::new();
+    put_counted(&mut line, "rows ", tally.rows);
+    put_counted(&mut line, "\nboot ", tally.boot);
+    put_counted(&mut line, "\nnone ", tally.none);
+    put_counted(&mut line, "\npanic ", tally.panic);
+    put_counted(&mut line, "\nfault ", tally.fault);
+    put_counted(&mut line, "\nmost-ops ", tally.most_ops);
+    line.put("\n");
+    line
+}
+
+// Seven lines: how many rows, how many of them with each result, the greatest number of operations; then where to go on, or `end`.
+fn tally_line<X: Subject>(tally: &TallyOf<X::Cursor>) -> Line
+    ensures { result ≡ tally_text X.subject tally.now }
+{
+    let mut line = counts_line(tally);
     match &tally.next {
         Some(cursor) => {
             line.put("next ");
@@ -130,7 +123,25 @@ pub fn write_tally<X: Subject, W: Write>(
         }
         None => line.put("end\n"),
     }
-    write_text(writer, line.as_str().as_bytes())
+    line
+}
+
+/// Writes seven lines, or a beginning of them: how many rows, how many of them with each result, the greatest number of operations;
+/// then where to go on, or `end`.
+///
+/// # Errors
+///
+/// `WriteFailed` where a write fails or takes no bytes.
+pub fn write_tally<X: Subject, W: Write>(
+    tally: &TallyOf<X::Cursor>,
+    writer: &mut W,
+) -> Result<(), WriteFailed>
+    ensures whole { OnOk result (Appends (W.contents writer.old) (W.contents writer.new)
+        (tally_text X.subject tally.now)) }
+    ensures prefix { OnErr result (AppendsPrefix (W.contents writer.old) (W.contents writer.new)
+        (tally_text X.subject tally.now)) }
+{
+    write_line(writer, &tally_line::<X>(tally))
 }
 
 /// Counts the next rows that come before that key, if one is given, at most so many, and how many of them are right: the rows of

@@ -61,7 +61,7 @@ fn add_settings(alloc: Global, text: &str, words: &mut Vec<String>) -> Result<()
     Ok(())
 }
 
-/// Adds the options that a file gives.
+/// Adds the options that a file gives, and the one that names it.
 ///
 /// # Errors
 ///
@@ -74,7 +74,9 @@ fn add_file<F: Files>(
 ) -> Result<(), Refusal> {
     let bytes = read_file(files, alloc, path, GREATEST_FILE)?;
     let text = String::from_utf8(bytes).map_err(|_| Refusal::LayoutFile)?;
-    add_settings(alloc, text.as_str(), words)
+    add_settings(alloc, text.as_str(), words)?;
+    let word = format!(in alloc; "--layout={path}").map_err(|_| Refusal::Memory)?;
+    words.push(word).map_err(|_| Refusal::Memory)
 }
 
 /// Prints what of such a file is refused: that it is no text, or the first line that says anything else.
@@ -111,7 +113,7 @@ pub fn asks_file(words: &[String]) -> bool {
     words.iter().any(|word| word.as_str() == "--layout" || word.starts_with("--layout="))
 }
 
-/// The words of a command line with what the file gives in place of each `--layout FILE`. What stands after `--` stays.
+/// The words of a command line with what the file gives before each `--layout FILE`. What stands after `--` stays.
 ///
 /// # Errors
 ///

@@ -22,8 +22,7 @@ pub fn print_note<F: Files, E: Write>(
             err,
             "mcsim: note: INFILE looks like Intel HEX, and create takes a binary (objcopy -O binary)"
         ),
-        "layout" => note_sectors(arguments, err),
-        _ => Ok(()),
+        _ => note_sectors(arguments, err),
     }
 }
 

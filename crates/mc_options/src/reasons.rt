@@ -31,6 +31,7 @@ pub fn report_reason<F: Files, E: Write>(
 ) -> io::Result<()> {
     match refusal {
         Refusal::Layout(error) => report_layout(arguments, *error, err),
+        Refusal::NeverSwaps => report_never(arguments, err),
         Refusal::Start(error) => report_start(&files, alloc, arguments, *error, err),
         Refusal::Tool(ToolError::Read) => match arguments.get_str("INFILE") {
             Some(path) => report_unread(&files, path, err),
@@ -128,6 +129,20 @@ fn report_layout<E: Write>(
             number(arguments, NumberOption::MaxSectors)
         ),
     }
+}
+
+/// Prints the numbers of a layout with which nothing is swapped.
+///
+/// # Errors
+///
+/// Where the output fails.
+fn report_never<E: Write>(arguments: &ArgMatches<'_>, err: &mut E) -> io::Result<()> {
+    let most = number(arguments, NumberOption::MaxSectors);
+    let primary = number(arguments, NumberOption::Primary);
+    writeln!(
+        err,
+        "mcsim: --max-sectors is {most}, --primary {primary}: the trailer has no room for that many"
+    )
 }
 
 /// Prints the first rule that the counts of sectors break.

@@ -9,6 +9,7 @@ use mc_flash::{FlashError, LayoutError};
 use mc_image::{ImageError, VersionError};
 use mc_imgtool::ToolError;
 use mc_life::{EventError, LifeError, ScriptError};
+use mc_output::WriteFailed;
 use mc_trace::TraceError;
 use std::io::Write;
 use thiserror::Error;
@@ -97,13 +98,16 @@ pub enum Refusal {
     /// Of all numbers of cuts: flashes that 16 cuts leave may lead to more.
     #[error("E87 MoreCuts")]
     MoreCuts,
+    /// A verdict is asked of a layout with which the boot loader swaps nothing.
+    #[error("E89 NeverSwaps")]
+    NeverSwaps,
     /// A file of a layout has a line that is none of its options.
     #[error("E88 LayoutFile")]
     LayoutFile,
     /// A file cannot be opened or made.
     #[error("E71 Open")]
     Open,
-    /// The help, or the output of a command, cannot be written.
+    /// The help, or the output of a command that is no page of rows, cannot be written.
     #[error("E25 Write")]
     Write,
     /// There is no memory to read the command line.
@@ -118,6 +122,16 @@ impl From<ExploreError> for Refusal {
 
     fn from(error: ExploreError) -> Self {
         Refusal::Explore(error)
+    }
+}
+
+impl From<WriteFailed> for Refusal {
+    ghost use Rattle.mc_options.specs.declared.refusal.Refusal.TheVariants.{Write};
+
+    ghost from_gives = { λ _ refusal. refusal ≡ Write };
+
+    fn from(_: WriteFailed) -> Self {
+        Refusal::Write
     }
 }
 
@@ -141,6 +155,7 @@ impl Refusal {
             | Refusal::SameFile
             | Refusal::InUse
             | Refusal::LayoutFile
+            | Refusal::NeverSwaps
             | Refusal::Layout(_)
             | Refusal::Schedule(_)
             | Refusal::Campaign(_)

@@ -33,7 +33,15 @@ fn share_file<F: Files>(files: &F, arguments: &ArgMatches<'_>, first: &str, seco
     }
 }
 
-/// Whether the file that an option names to be written is an image or a script that is read.
+/// Whether the file that an option names is one of those that layouts are read from.
+fn is_layout<F: Files>(files: &F, arguments: &ArgMatches<'_>, option: &str) -> bool {
+    match (arguments.get_str(option), arguments.get_strs("layout")) {
+        (Some(path), Some(layouts)) => layouts.iter().any(|it| is_same_file(files, path, it)),
+        _ => false,
+    }
+}
+
+/// Whether the file that an option names to be written is an image, a script or a layout that is read.
 fn is_lost<F: Files>(files: &F, arguments: &ArgMatches<'_>, option: &str) -> bool
     ensures { result ≡ false → IsKept (found_of arguments.now) option.now }
 {
@@ -41,10 +49,11 @@ fn is_lost<F: Files>(files: &F, arguments: &ArgMatches<'_>, option: &str) -> boo
         || share_file(files, arguments, option, "image-b")
         || share_file(files, arguments, option, "image")
         || share_file(files, arguments, option, "SCRIPT")
+        || is_layout(files, arguments, option)
 }
 
-/// Checks that no file which a command writes is another that it names: `--out` and `--at-cut` are two files, and neither is an image
-/// or the script; `--at-cut` is not the flash, but `--out` may be: then a boot happens in place.
+/// Checks that no file which a command writes is another that it names: `--out` and `--at-cut` are two files, and neither is an image,
+/// the script or the file of a layout; `--at-cut` is not the flash, but `--out` may be: then a boot happens in place.
 ///
 /// # Errors
 ///

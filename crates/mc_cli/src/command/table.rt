@@ -113,6 +113,8 @@ pub enum Takes {
     Itself,
     /// A value, by what help calls it.
     Value(&'static str),
+    /// A value, by what help calls it, each time that it is given.
+    Values(&'static str),
     /// One of some values, by what help calls it.
     OneOf(&'static str, &'static [&'static str]),
 }
@@ -276,10 +278,11 @@ static LAYOUT: [Word; 7] = [
         help: "Sectors of the secondary slot",
         ..NUMBER
     },
-    // The words of the file are put in its place before clap sees them.
+    // The words of the file stand beside it when clap sees them.
     Word {
         name: "layout",
         help: "The six from a file: these options, one a line, # before a comment",
+        takes: Takes::Values("FILE"),
         ..FILE
     },
 ];
@@ -530,7 +533,7 @@ static VERDICT: [Word; 4] = [
     },
     Word {
         name: "all-right",
-        help: "Refuse, after the counts, where the images are not those expected",
+        help: "Refuse, after the counts, where the images are not those of a swap",
         ..FLAG
     },
     EXPECT_PRIMARY,
@@ -735,8 +738,8 @@ confirm itself to be taken back: each image where it was at the start.";
 const AFTER_CENSUS: &str = "\
 Seven lines: how many schedules of at most K power cuts can occur, how many of them have each RESULT
 (boot, none, panic, fault), the most operations of a last boot, and the first schedule whose result is
-not boot, or none. They are not listed, so that even K of 16 takes less than a second on most layouts;
-with the grain unit and large images it may take half a minute and 300 MB.
+not boot, or none. They are not listed, so that even K of 16 takes some hundredths of a second and a
+few megabytes, with the grain unit too.
 Where something is expected of the slots, two lines more: how many schedules boot with the expected
 images, and the first that does not. --all-right expects of two images the named one in the primary
 at the end and the other in the secondary; that takes a second census.

@@ -66,7 +66,7 @@ fn rights_if<'a, X: OfStart<'a> + Countable>(
 ///
 /// # Errors
 ///
-/// `Source`, `Layout`, the numbers and `Version` of the words; what `read_start` refuses.
+/// `Source`, `Layout`, the numbers and `Version` of the words; `NeverSwaps`; what `read_start` refuses.
 pub fn read<X: Explorable, F: Files>(
     files: &F,
     alloc: Global,
@@ -81,6 +81,7 @@ pub fn read<X: Explorable, F: Files>(
     };
     let cuts = census_options(arguments)?;
     let asked = Asked::read(arguments)?;
+    asked.check(&options.layout)?;
     let choice = X::chosen(arguments);
     Ok(Wanted {
         choice,
@@ -117,7 +118,7 @@ fn count<'a, X: OfStart<'a> + Countable>(
 ///
 /// # Errors
 ///
-/// Those of `count`; `Explore` where the output cannot be written. With `--all-boot` also `NotAllBoot` where one does not end
+/// Those of `count`; `Write` where the output cannot be written. With `--all-boot` also `NotAllBoot` where one does not end
 /// in a boot, and with `--all-right` `NotAllRight` where one is not right; the output is written then.
 pub fn run<'a, X: Explorable + OfStart<'a> + Countable, O: Write>(
     wanted: &'a Wanted<X::Choice>,

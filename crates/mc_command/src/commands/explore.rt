@@ -1,13 +1,13 @@
 //! `explore`, `campaign` and `survey`: every schedule of power cuts, or every campaign of two rounds, with what the boots after them
 //! do, and how many do what.
-ghost use Rattle.std.specs.Prelude.{◌≡◌, ◌++◌, ◌≤◌, Err, IfOk, is_none, option_map};
+ghost use Rattle.std.specs.Prelude.{◌≡◌, ◌++◌, ◌≤◌, Err, IfOk, option_map};
 ghost use Rattle.std.specs.Io.KnownBytes.{Appends};
 ghost use Rattle.clap.specs.Matches.{found_of};
 ghost use Rattle.mc_explore.specs.Pages.{Page};
 ghost use Rattle.mc_explore.specs.Survey.{tally_by, tally_text};
 ghost use Rattle.mc_explore.specs.declared.expectation.Expectation.{Expectation as Expected};
 ghost use Rattle.mc_command.specs.Sessions.{Explores, PrintsUntil, TalliesAsked, TalliesUntil, GivesExploration, back_from, ends_of};
-ghost use Rattle.mc_command.specs.Verdicts.{AreCounted, IsExpectation, IsVerdict, lines_of};
+ghost use Rattle.mc_command.specs.Verdicts.{AreCounted, IsExpectation, IsVerdict, is_whole, lines_of};
 ghost use Rattle.mc_boot.specs.Plan.{identity_of};
 
 use super::{finish, in_blocks};
@@ -16,13 +16,14 @@ use crate::verdict::{Asked, right_if_asked, write_lines};
 use clap::ArgMatches;
 use mc_boot::ImageId;
 use mc_explore::{
-    Expectation, OfStart, RightsOf, Start, TallyOf, TreeExplorer, all_boot, survey_rows,
-    write_rows, write_tally,
+    Expectation, ExploreError, OfStart, RightsOf, Start, TallyOf, TreeExplorer, all_boot,
+    survey_rows, write_rows, write_tally,
 };
 use mc_flash::JournalFlash;
 use mc_options::{
     ExploreOptions, RangeOptions, Refusal, Source, explore_options, flash_options, read_start,
 };
+use mc_output::WriteFailed;
 use std::alloc::Global;
 use std::io::Write;
 use std::rt::Files;
@@ -64,11 +65,13 @@ pub fn ends(back: bool, named: Option<(ImageId, ImageId)>) -> Option<(ImageId, I
 ///
 /// # Errors
 ///
-/// `Source`, `Layout`, the numbers, `CursorOptions`, `Cursor`, `Schedule` and `Campaign` of the words; what `read_start` refuses.
+/// `Source`, `Layout`, the numbers, `CursorOptions`, `Cursor`, `Schedule` and `Campaign` of the words; `NeverSwaps`; what `read_start`
+/// refuses.
 fn read<X: Explorable, F: Files>(
     files: &F,
     alloc: Global,
     arguments: &ArgMatches<'_>,
+    asked: &Asked,
 ) -> Result<Exploration<X::Choice, X::Cursor, X::Key>, Refusal>
     ensures given { IfOk result (GivesExploration X.subject X.IsChoice X.is_taken_back
         (found_of arguments.now)) }
@@ -80,6 +83,7 @@ fn read<X: Explorable, F: Files>(
     };
     let extent = explore_options(arguments)?;
     let range = X::range(arguments)?;
+    asked.check(&options.layout)?;
     let choice = X::chosen(arguments);
     Ok(Exploration {
         choice,
@@ -151,7 +155,10 @@ fn print<'a, X: Explorable + OfStart<'a>, O: Write + Drop>(
         exploration.extent.limit,
         &mut blocks,
     )?;
-    Ok(finish(blocks)?)
+    match finish(blocks) {
+        Ok(written) => Ok(written),
+        Err(WriteFailed) => Err(Refusal::Explore(ExploreError::Write)),
+    }
 }
 
 /// Counts the rows of the page, and how many of them are right.
@@ -211,7 +218,7 @@ pub fn ask<X: Explorable, F: Files>(
     ensures { IfOk result (λ given. (given.1.extent.cuts ≤ 16) × (1 ≤ given.1.extent.limit)) }
 {
     let asked = Asked::read(arguments)?;
-    let exploration = read::<X, F>(files, alloc, arguments)?;
+    let exploration = read::<X, F>(files, alloc, arguments, &asked)?;
     Ok((asked, exploration))
 }
 
@@ -221,7 +228,8 @@ pub fn ask<X: Explorable, F: Files>(
 ///
 /// # Errors
 ///
-/// `Expectation`; `Explore` where memory failed, or the output cannot be written. What is asked of the rows is refused as of a survey,
+/// `Expectation`; `Explore` where memory failed, or the page cannot be written; `Write` of the lines after it. What is asked of the rows is
+/// refused as of a survey,
 /// once the page is out.
 pub fn run<'a, X: Explorable + OfStart<'a>, O: Write>(
     exploration: &'a Exploration<X::Choice, X::Cursor, X::Key>,
@@ -247,7 +255,7 @@ pub fn run<'a, X: Explorable + OfStart<'a>, O: Write>(
 ///
 /// # Errors
 ///
-/// `Expectation`; `Explore` where memory failed or the output cannot be written.
+/// `Expectation`; `Explore` where memory failed; `Write`.
 /// With `--all-boot` also `NotAllBoot` where a row does not end in a boot, with `--all-right` `NotAllRight` where one is not right,
 /// and with either `NotWhole` where the page would go on; the output is written then.
 pub fn survey<'a, X: Explorable + OfStart<'a>, O: Write>(
@@ -269,7 +277,7 @@ pub fn survey<'a, X: Explorable + OfStart<'a>, O: Write>(
 ///
 /// # Errors
 ///
-/// The first of `NotAllBoot`, `NotAllRight` and `NotWhole` that was asked for and does not hold.
+/// The first of `NotAllBoot`, `NotAllRight` and `NotWhole` that was asked for and does not hold. No rows at all give no verdict.
 fn judge<X: Explorable>(
     tally: &TallyOf<X::Cursor>,
     rights: &Option<RightsOf<X::Key>>,
@@ -277,9 +285,9 @@ fn judge<X: Explorable>(
 ) -> Result<(), Refusal>
     ensures { (e : Expected) (page : Page X.Shown X.Cursor) → tally.now
         ≡ tally_by X.subject.ends page → AreCounted X.subject e page.rows rights.now
-        → IsVerdict X.subject.ends asked.now e page.rows rights.now (is_none page.goes_on) result }
+        → IsVerdict X.subject.ends asked.now e page.rows rights.now (is_whole page) result }
 {
     let boots = all_boot::<X>(tally);
     let right = right_if_asked::<X>(rights);
-    asked.verdict(boots, right, tally.next.is_none())
+    asked.verdict(boots, right, tally.next.is_none() && tally.rows != 0)
 }

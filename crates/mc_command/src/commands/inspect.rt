@@ -1,5 +1,5 @@
 //! `inspect` and `locate`: what a dump of a device is, and where it occurs in a swap of two images.
-ghost use Rattle.std.specs.Prelude.{◌≡◌, ◌≤◌, ◌⊎◌, length, IfOk};
+ghost use Rattle.std.specs.Prelude.{◌≡◌, ◌<◌, ◌≤◌, length, IfOk};
 ghost use Rattle.clap.specs.Matches.{found_of};
 ghost use Rattle.mc_options.specs.Arguments.{GivesLayout, GivesRules};
 ghost use Rattle.mc_command.specs.Inspections.{IsFound, IsSwapOf, first_of, second_of};
@@ -169,7 +169,7 @@ fn print<O: Write>(alloc: Global, inspected: &Inspected, out: &mut O) -> Result<
 ///
 /// # Errors
 ///
-/// Those of `read` and `print`; `Explore` for want of memory, or where the output fails.
+/// Those of `read` and `print`; `Explore` for want of memory; `Write`.
 pub fn run<F: Files, O: Write>(
     files: &F,
     alloc: Global,
@@ -209,9 +209,10 @@ fn find_in(alloc: Global, flash: &Start, images: &Images, kind: Kind) -> Result<
 
 /// That of two where fewer sectors differ; the first where as many do.
 fn nearer(first: Found, second: Found) -> Found
-    ensures one { (result ≡ first) ⊎ (result ≡ second) }
-    ensures first { length result.located.differs.items ≤ length first.located.differs.items }
-    ensures second { length result.located.differs.items ≤ length second.located.differs.items }
+    ensures first { length first.located.differs.items ≤ length second.located.differs.items
+        → result ≡ first }
+    ensures second { length second.located.differs.items < length first.located.differs.items
+        → result ≡ second }
 {
     if second.located.differs.len() < first.located.differs.len() {
         second
@@ -221,7 +222,8 @@ fn nearer(first: Found, second: Found) -> Found
 }
 
 /// Prints after which schedule of a swap of the known images a dump occurs, the first such, or which sectors differ from the nearest flash
-/// of these. A test is tried first, then a swap for good, then the revert of the test. The words are checked before a file is touched.
+/// of these; and whether no number of cuts leaves a nearer one in any of these swaps. A test is tried first, then a swap for good, then the
+/// revert of the test. The words are checked before a file is touched.
 ///
 /// # Errors
 ///
@@ -243,18 +245,19 @@ pub fn find<F: Files, O: Write>(
     let test = find_in(alloc, &flash, &images, Kind::Test)?;
     let perm = find_in(alloc, &flash, &images, Kind::Perm)?;
     let revert = find_in(alloc, &flash, &images, Kind::Revert)?;
-    print_found(&nearer(nearer(test, perm), revert), out)
+    let whole = test.located.whole && perm.located.whole && revert.located.whole;
+    print_found(&nearer(nearer(test, perm), revert), whole, out)
 }
 
-/// Prints a swap, and where a flash occurs in it.
+/// Prints a swap, where a flash occurs in it, and whether no number of cuts leaves a nearer one in any swap.
 ///
 /// # Errors
 ///
 /// `Write`.
-fn print_found<O: Write>(found: &Found, out: &mut O) -> Result<(), Refusal> {
-    let all = if found.located.whole { "yes" } else { "no" };
+fn print_found<O: Write>(found: &Found, whole: bool, out: &mut O) -> Result<(), Refusal> {
+    let all = if whole { "yes" } else { "no" };
     let kind = kind_name(found.kind);
     writeln!(out, "swap {kind}").map_err(|_| Refusal::Write)?;
-    write_located(&found.located, out).map_err(|_| Refusal::Write)?;
+    write_located(&found.located, out)?;
     writeln!(out, "all {all}").map_err(|_| Refusal::Write)
 }

@@ -20,7 +20,7 @@ use std::rt::Files;
 ///
 /// # Errors
 ///
-/// What `Ends::read` and `read_schedule` refuse; `Trace` where a cut can't occur, for want of memory, or where the output fails.
+/// What `Ends::read` and `read_schedule` refuse; those of `draw`.
 pub fn run<F: Files, O: Write>(
     files: &F,
     alloc: Global,
@@ -38,7 +38,7 @@ pub fn run<F: Files, O: Write>(
 ///
 /// # Errors
 ///
-/// `Trace` where a cut can't occur, for want of memory, or where the output fails.
+/// `Trace` where a cut can't occur, or for want of memory; `Trace` and `Write` where the output fails.
 fn draw<O: Write + Drop>(
     alloc: Global,
     given: &Scheduled,

@@ -1,5 +1,5 @@
 //! `vectors`: each distinct flash that power cuts leave, for a boot loader to be tried on.
-ghost use Rattle.std.specs.Prelude.{◌≡◌, ◌<◌, length, IfOk, IsOk};
+ghost use Rattle.std.specs.Prelude.{◌≡◌, ◌<◌, IfOk, IsOk};
 ghost use Rattle.std.specs.Io.KnownBytes.{Appends};
 ghost use Rattle.clap.specs.Matches.{found_of};
 ghost use Rattle.mc_start.specs.Start.{begun};
@@ -15,6 +15,7 @@ use mc_options::{Outfile, Refusal, census_options, flash_options, read_start, re
 use mc_trace::{write_patch, write_slots};
 use mc_vectors::{Case, Found, find_cases, write_cases};
 use std::alloc::Global;
+use std::collections::BTreeSet;
 use std::fs;
 use std::io::{Error, ErrorKind, Write};
 use std::rt::Files;
@@ -78,20 +79,21 @@ fn print_table<O: Write + Drop>(alloc: Global, cases: &[Case], out: O) -> Result
         (cases_text cases.now)) }
 {
     let mut blocks = in_blocks(alloc, out)?;
-    write_cases(cases, &mut blocks).map_err(|_| Refusal::Write)?;
-    match finish(blocks) {
-        Ok(out) => Ok(out),
-        Err(_) => Err(Refusal::Write),
-    }
+    write_cases(cases, &mut blocks)?;
+    Ok(finish(blocks)?)
 }
 
-/// Whether the flash that the boot of the case of that number leaves is none of the cases' and none that an earlier one leaves.
-fn is_new_left(cases: &[Case], index: usize) -> bool
-    requires { index < length cases.now }
-{
-    let left = cases[index].left;
-    cases[..index].iter().all(|earlier| earlier.left != left)
-        && cases.iter().all(|case| case.digest != left)
+/// The digests of the flashes that cuts leave.
+///
+/// # Errors
+///
+/// `Memory`.
+fn digests_of(alloc: Global, cases: &[Case]) -> Result<BTreeSet<[u8; 32]>, Refusal> {
+    let mut digests = BTreeSet::new(alloc);
+    for case in cases {
+        digests.insert(case.digest).map_err(|_| Refusal::Memory)?;
+    }
+    Ok(digests)
 }
 
 /// Why a folder cannot be read.
@@ -176,7 +178,7 @@ impl<F: Files> Folder<'_, '_, F> {
         } else {
             write_slots(flash, &mut blocks)?;
         }
-        let _ = finish(blocks).map_err(|_| Refusal::Write)?;
+        let _ = finish(blocks)?;
         Ok(())
     }
 
@@ -207,13 +209,13 @@ impl<F: Files> Folder<'_, '_, F> {
     ///
     /// # Errors
     ///
-    /// Those of `write_flash`; `Replay` for want of memory.
+    /// Those of `write_flash`; `Replay` and `Memory` for want of memory.
     fn write_flashes(&self, start: &Start, cases: &[Case]) -> Result<(), Refusal> {
-        for index in 0..cases.len() {
-            let case = &cases[index];
+        let mut written = digests_of(self.alloc, cases)?;
+        for case in cases {
             let flash: JournalFlash = flash_at_cut(self.alloc, start, &case.schedule)?;
             self.write_flash(start, &case.digest, &flash)?;
-            if is_new_left(cases, index) {
+            if written.insert(case.left).map_err(|_| Refusal::Memory)? {
                 let (_, left) = replay::<JournalFlash>(self.alloc, start, &case.schedule)?;
                 self.write_flash(start, &case.left, &left)?;
             }

@@ -111,12 +111,12 @@ sectors WORKED --kind test IMAGES
 sectors WORKED --kind test IMAGES --rounds 2
 picture WORKED --kind test IMAGES
 vectors WORKED --kind test IMAGES --cuts 1
-explore WORKED --kind test IMAGES --cuts 1 --limit 2 --expect-primary 2
-campaign WORKED --kind test IMAGES --cuts 1 --limit 2 --expect-primary 2
+explore WORKED --kind test IMAGES --cuts 1 --expect-primary 2
+campaign WORKED --kind test IMAGES --cuts 1 --expect-primary 1
 survey WORKED --kind test IMAGES --cuts 1 --expect-primary 2
-survey WORKED --kind test IMAGES --rounds 2 --cuts 1 --expect-primary 2
+survey WORKED --kind test IMAGES --rounds 2 --cuts 1 --expect-primary 1
 census WORKED --kind test IMAGES --cuts 1 --expect-primary 2
-census WORKED --kind test IMAGES --rounds 2 --cuts 1 --expect-primary 2
+census WORKED --kind test IMAGES --rounds 2 --cuts 1 --expect-primary 1
 life WORKED --image first --wear script
 inspect WORKED --flash in --known-a first --known-b second < MOVED
 locate WORKED --flash in --known-a first --known-b second < MOVED,1280=00
@@ -128,9 +128,8 @@ fn rows_of(line: &str, whole: &[u8]) -> usize {
         return 0;
     }
     let text = str::from_utf8(whole).unwrap_or("");
-    let (_, cursor) = text.split_once("next ").unwrap_or(("", text));
-    let (_, verdict) = cursor.split_once('\n').unwrap_or(("", ""));
-    text.len().saturating_sub(verdict.len())
+    let (rows, _) = text.split_once("right ").unwrap_or((text, ""));
+    rows.len()
 }
 
 /// How a command line ends with that file `in` and a standard output that fails after so many bytes: its status, what it says of it,

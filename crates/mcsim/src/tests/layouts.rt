@@ -137,7 +137,7 @@ $ type WORKED --flash in < 1792:0=ff
 primary UNSET; secondary UNSET; resume no; table none
 $ type WORKED --kind none --image-a in --image-b first < 1048577:0=first
 primary UNSET; secondary UNSET; resume no; table none
-$ type --sector 65536 --unit 8 --max-sectors 4 --chunk 128 --primary 9 --secondary 8 --flash in < 1114112:0=first
+$ type --sector 65536 --unit 8 --max-sectors 9 --chunk 128 --primary 9 --secondary 8 --flash in < 1114112:0=first
 primary UNSET; secondary UNSET; resume no; table none
 ";
 

@@ -53,6 +53,14 @@ fn reads_a_layout_from_a_file(rt: HostRuntime) {
         missing,
     );
     long_layouts(&rt, rt.alloc(), type_line, trailers.as_str());
+    let lost = "! mcsim: E75 SameFile\nexit 2\n";
+    for line in [
+        "boot --layout in --kind test --image-a first --image-b second --out in",
+        "replay --layout in --kind test --image-a first --image-b second --schedule 0 --at-cut in",
+        "life --layout=in --image first --out in script",
+    ] {
+        shows(&rt, rt.alloc(), line, LAYOUT_FILE, lost);
+    }
     let path = "! mcsim: E71 Open\nexit 3\n";
     shows(&rt, rt.alloc(), "verify -- --layout=in", LAYOUT_FILE, path);
     let paths = "create --version 2 --header-size 32 -- --layout in";

@@ -3,7 +3,7 @@
 use super::support::{Table, all_play};
 
 /// Two images, for which the named one is to lie in the primary at the end, and the other in the secondary; a revert under cuts
-/// between units, which the first profile can forget; a part of the rows, which is no verdict.
+/// between units, which the first profile can forget; a part of the rows, and none, which are no verdict; a layout that never swaps.
 const IMAGES: &str = "\
 $ census WORKED --kind test IMAGES --cuts 2 --all-right
 schedules 222; boot 222; none 0; panic 0; fault 0; most-ops 18; first-not-boot none; right 222; first-not-right none
@@ -21,10 +21,20 @@ $ survey WORKED --kind test IMAGES --cuts 2 --limit 100 --all-right
 rows 100; boot 100; none 0; panic 0; fault 0; most-ops 18; next mc1:START:2:5.2; right 100; first-not-right none; ! mcsim: E77 NotWhole; exit 1
 $ survey WORKED --kind test IMAGES --cuts 2 --limit 100 --all-boot
 rows 100; boot 100; none 0; panic 0; fault 0; most-ops 18; next mc1:START:2:5.2; ! mcsim: E77 NotWhole; exit 1
+$ survey WORKED --kind test IMAGES --cuts 1 --after 3 --until 3 --all-boot
+rows 0; boot 0; none 0; panic 0; fault 0; most-ops 0; end; ! mcsim: E77 NotWhole; exit 1
+$ census TWO --kind test IMAGES --cuts 1 --all-boot
+! mcsim: E89 NeverSwaps; exit 2
+$ explore TWO --kind test IMAGES --cuts 0 --expect-primary 2
+! mcsim: E89 NeverSwaps; exit 2
+$ survey TWO --kind test --image-a nofile --image-b nofile --cuts 0 --all-right --verbose
+! mcsim: E89 NeverSwaps; mcsim: --max-sectors is 4, --primary 5: the trailer has no room for that many; exit 2
+$ census TWO --kind test IMAGES --cuts 0
+schedules 1; boot 1...! mcsim: note: --max-sectors 4 is less than --primary 5, so that MCUboot refuses to swap; exit 0
 $ survey WORKED --kind test IMAGES --cuts 2 --limit 100 --all --all-boot
 rows 222; boot 222; none 0; panic 0; fault 0; most-ops 18; end
 $ explore WORKED --kind test IMAGES --cuts 1 --limit 2 --expect-primary 2
-- boot test 18 2.0.0+0/80 1.0.0+0/80 revert; 0 boot test 18 2.0.0+0/80 1.0.0+0/80 revert; next mc1:START:1:0; right 2; first-not-right none
+- boot test 18 2.0.0+0/80 1.0.0+0/80 revert; 0 boot test 18 2.0.0+0/80 1.0.0+0/80 revert; next mc1:START:1:0; right 2; first-not-right none; ! mcsim: E77 NotWhole; exit 1
 $ explore WORKED --kind test IMAGES --cuts 1 --limit 2 --all-boot
 - boot test 18 2.0.0+0/80 1.0.0+0/80 revert; 0 boot test 18 2.0.0+0/80 1.0.0+0/80 revert; next mc1:START:1:0; ! mcsim: E77 NotWhole; exit 1
 $ explore WORKED --kind none IMAGES --cuts 1 --all --all-right --expect-secondary none

@@ -12,7 +12,7 @@ rows 19; boot 19; none 0; panic 0; fault 0; most-ops 0; end; right 19; first-not
 $ survey WORKED --kind test IMAGES --rounds 2 --cuts 1 --grain unit --all-boot --all-right
 rows 225; boot 225; none 0; panic 0; fault 0; most-ops 115; end; right 224; first-not-right 2.4; ! mcsim: E76 NotAllRight; exit 1
 $ survey WORKED --kind test IMAGES --rounds 2 --cuts 1 --expect-primary 2.0.0
-rows 42; boot 42; none 0; panic 0; fault 0; most-ops 23; end; right 0; first-not-right -
+rows 42; boot 42; none 0; panic 0; fault 0; most-ops 23; end; right 0; first-not-right -; ! mcsim: E76 NotAllRight; exit 1
 $ survey WORKED --kind test IMAGES --rounds 2 --cuts 1 --limit 19 --all-boot
 rows 19; boot 19; none 0; panic 0; fault 0; most-ops 23; next mc3:call:1:leave:START:1:1.17; ! mcsim: E77 NotWhole; exit 1
 $ survey WORKED --kind test IMAGES --rounds 2 --cuts 1 --cursor mc3:call:1:leave:START:1:1.17
@@ -28,7 +28,7 @@ schedules 19; boot 19; none 0; panic 0; fault 0; most-ops 0; first-not-boot none
 $ census WORKED --kind test IMAGES --rounds 2 --cuts 1 --grain unit --all-boot --all-right
 schedules 225; boot 225; none 0; panic 0; fault 0; most-ops 115; first-not-boot none; right 224; first-not-right 2.4; ! mcsim: E76 NotAllRight; exit 1
 $ census WORKED --kind test IMAGES --rounds 2 --cuts 1 --expect-primary 2.0.0
-schedules 42; boot 42; none 0; panic 0; fault 0; most-ops 23; first-not-boot none; right 0; first-not-right -
+schedules 42; boot 42; none 0; panic 0; fault 0; most-ops 23; first-not-boot none; right 0; first-not-right -; ! mcsim: E76 NotAllRight; exit 1
 $ census WORKED --kind none IMAGES --rounds 2 --cuts 16 --all-right
 schedules 1; boot 1; none 0; panic 0; fault 0; most-ops 0; first-not-boot none; right 1; first-not-right none
 $ census WORKED --kind test IMAGES --cuts 1 --confirm
@@ -38,7 +38,7 @@ $ campaign WORKED --kind test IMAGES --cuts 1 --after 1.17 --until 2.1 --all-boo
 $ campaign WORKED --kind test IMAGES --cuts 1 --limit 1 --expect-secondary none --all-right
 - boot test 18 boot revert 23 1.0.0+0/80 2.0.0+0/80 none; next mc3:call:1:leave:START:1:-; right 0; first-not-right -; ! mcsim: E76 NotAllRight; exit 1
 $ campaign WORKED --kind test IMAGES --cuts 0 --expect-primary 2 --expect-secondary 2
-- boot test 18 boot revert 23 1.0.0+0/80 2.0.0+0/80 none; end; right 0; first-not-right -
+- boot test 18 boot revert 23 1.0.0+0/80 2.0.0+0/80 none; end; right 0; first-not-right -; ! mcsim: E76 NotAllRight; exit 1
 $ campaign WORKED --flash in --cuts 1 --until 1.1 < MOVED
 - boot test 9 boot revert 23 1.0.0+0/80 2.0.0+0/80 none; 1.0 boot test 9 boot revert 23 1.0.0+0/80 2.0.0+0/80 none; end
 $ campaign WORKED --kind test IMAGES --cuts 1 --after 2.23

@@ -172,8 +172,8 @@ pub fn fits(text: &str, want: &str) -> bool {
 pub fn shows(rt: &impl Abort, alloc: Global, line: &str, input: &[u8], want: &str) -> Outcome {
     let ended = ran(rt, alloc, line, input);
     let mut text = ended.text(rt, alloc);
-    if want.starts_with("lines ") {
-        text = sum_of(rt, alloc, text.as_str());
+    if want.starts_with("lines ") && ended.status == 0 {
+        text = sum_of(rt, alloc, ended.out.as_str());
     }
     assert!(rt; fits(text.as_str(), want), "{line}: {text}");
     ended

@@ -134,7 +134,7 @@ static HELP: [(&str, &str); 8] = [
     ("type --help", "Usage: mcsim type "),
     ("explore --help", "Usage: mcsim explore "),
     ("sign --help", "Usage: mcsim "),
-    ("--version", "mcsim 0.1.0 (proved by rattle-kit-"),
+    ("--version", "mcsim 0.1.0\n"),
 ];
 
 #[test]
