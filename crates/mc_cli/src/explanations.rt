@@ -21,6 +21,17 @@ pub fn explanation_of(number: u8) -> Option<&'static Explanation>
         .find(|e| e.number == number)
 }
 
+/// All explanations, by their numbers.
+pub fn all_explanations() -> [&'static [Explanation]; 5] {
+    [
+        of_images(),
+        of_the_image_tool(),
+        of_flashes(),
+        of_explorations(),
+        of_commands(),
+    ]
+}
+
 /// The explanations among which that of a number stands. All of them are by their numbers, and `docs/FORMAT.md` has the same
 /// tables.
 fn explanations_near(number: u8) -> &'static [Explanation] {

@@ -7,5 +7,5 @@ mod explanations;
 mod watched;
 
 pub use command::parse;
-pub use explanations::{Explanation, explanation_of};
+pub use explanations::{Explanation, all_explanations, explanation_of};
 pub use watched::{Unopened, WatchedFiles};

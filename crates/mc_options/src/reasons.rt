@@ -3,7 +3,7 @@ use crate::layout_file::report_lines;
 use crate::numbers::NumberOption;
 use crate::options::layout_options;
 use crate::refusal::Refusal;
-use crate::source::{GREATEST_IMAGE, read_file};
+use crate::source::{GREATEST_FLASH, GREATEST_IMAGE, read_file};
 use clap::ArgMatches;
 use mc_cli::WatchedFiles;
 use mc_explore::StartError;
@@ -16,8 +16,8 @@ use std::io::{Read, Write};
 use std::rt::Files;
 use std::{fs, io};
 
-/// Prints the reason of a refusal, if it is known: the file and what the system says of it, or the line of it that is refused; the sizes
-/// of an image and of what fits; or the rule that a layout breaks, with its numbers.
+/// Prints the reason of a refusal, if it is known: the file and what the system says of it, how much of it is read, or the line of it that is
+/// refused; the sizes of an image and of what fits; the rule that a layout breaks, with its numbers; or the words that are missing.
 ///
 /// # Errors
 ///
@@ -33,6 +33,8 @@ pub fn report_reason<F: Files, E: Write>(
         Refusal::Layout(error) => report_layout(arguments, *error, err),
         Refusal::NeverSwaps => report_never(arguments, err),
         Refusal::Start(error) => report_start(&files, alloc, arguments, *error, err),
+        Refusal::Source => report_source(arguments, err),
+        Refusal::Tool(ToolError::InputTooLong) => report_long(files, arguments, err),
         Refusal::Tool(ToolError::Read) => match arguments.get_str("INFILE") {
             Some(path) => report_unread(&files, path, err),
             None => report_file(files, alloc, refusal, err),
@@ -68,6 +70,47 @@ pub fn report_file<F: Files, E: Write>(
         },
         _ => Ok(()),
     }
+}
+
+/// Prints what a source is given by.
+///
+/// # Errors
+///
+/// Where the output fails.
+fn report_source<E: Write>(arguments: &ArgMatches<'_>, err: &mut E) -> io::Result<()> {
+    let is_dump = arguments.get_str("flash").is_some()
+        && arguments.get_str("kind").is_none()
+        && arguments.get_str("image-a").is_none()
+        && arguments.get_str("image-b").is_none();
+    if is_dump {
+        writeln!(err, "mcsim: --known-a and --known-b go together")
+    } else {
+        writeln!(
+            err,
+            "mcsim: give --flash alone, or all of --kind, --image-a and --image-b"
+        )
+    }
+}
+
+/// Prints the file that is too long, and how many bytes of it are read at most.
+///
+/// # Errors
+///
+/// Where the output fails.
+fn report_long<F: Files, E: Write>(
+    files: WatchedFiles<'_, F>,
+    arguments: &ArgMatches<'_>,
+    err: &mut E,
+) -> io::Result<()> {
+    let Some(path) = files.take_opened() else {
+        return writeln!(err, "mcsim: the input has more than {GREATEST_IMAGE} bytes");
+    };
+    let limit = if arguments.get_str("flash") == Some(path.as_str()) {
+        GREATEST_FLASH
+    } else {
+        GREATEST_IMAGE
+    };
+    writeln!(err, "mcsim: {path} has more than {limit} bytes")
 }
 
 /// Prints the last file that could not be opened or made, if there is one, and what the system says of it.
@@ -163,6 +206,13 @@ fn report_counts<E: Write>(arguments: &ArgMatches<'_>, sector: u32, err: &mut E)
     if secondary == 0 {
         return writeln!(err, "mcsim: --secondary is 0: it must be 1 or more");
     }
+    if primary > GREATEST_IMAGE / 64 && primary.checked_rem(sector) == Some(0) {
+        let count = primary.checked_div(sector).unwrap_or(0);
+        return writeln!(
+            err,
+            "mcsim: --primary counts sectors: {primary} bytes are {count} of {sector}"
+        );
+    }
     let more = u64::from(secondary) + 1;
     if primary != secondary && u64::from(primary) != more {
         return writeln!(
@@ -199,8 +249,12 @@ fn report_start<F: Files, E: Write>(
     let first = arguments
         .get_str("image-a")
         .or(arguments.get_str("image"))
+        .or(arguments.get_str("known-a"))
         .unwrap_or("");
-    let second = arguments.get_str("image-b").unwrap_or("");
+    let second = arguments
+        .get_str("image-b")
+        .or(arguments.get_str("known-b"))
+        .unwrap_or("");
     match error {
         StartError::ImageA(_) => writeln!(err, "mcsim: image A is {first}"),
         StartError::ImageB(_) => writeln!(err, "mcsim: image B is {second}"),

@@ -65,8 +65,8 @@ pub enum Refusal {
     /// The image tool refuses.
     #[error(transparent)]
     Tool(#[from] ToolError),
-    /// No refusal has the number that is to be explained.
-    #[error("no refusal has this number")]
+    /// No refusal has the number or the name that is to be explained.
+    #[error("no refusal has this number or name")]
     Unexplained,
     /// `--after` and `--cursor` are both given.
     #[error("E73 CursorOptions")]

@@ -629,8 +629,7 @@ static LIFE: [Word; 3] = [
 /// What `explain` is given.
 static REFUSAL: [Word; 1] = [Word {
     name: "NUMBER",
-    required: true,
-    help: "The refusal's number, as 33 or E33",
+    help: "The refusal's number, as 33 or E33, or its name; without it all are listed",
     ..PLACE
 }];
 

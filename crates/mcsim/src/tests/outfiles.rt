@@ -74,6 +74,8 @@ fn reads_a_layout_from_a_file(rt: HostRuntime) {
 const REASONS: &str = "\
 $ layout --verbose --sector 256 --unit 8 --max-sectors 4 --chunk 128 --primary 5 --secondary 3
 ! mcsim: E33 Counts; mcsim: --primary is 5, --secondary 3: it must be 3 or 4; exit 2
+$ layout --verbose --sector 4096 --unit 4 --max-sectors 128 --chunk 1024 --primary 483328 --secondary 479232
+! mcsim: E33 Counts; mcsim: --primary counts sectors: 483328 bytes are 118 of 4096; exit 2
 $ layout --verbose --sector 256 --unit 3 --max-sectors 4 --chunk 128 --primary 4 --secondary 3
 ! mcsim: E30 Unit; mcsim: --unit is 3: it must be 1, 2, 4 or 8; exit 2
 $ --verbose layout --sector 200 --unit 8 --max-sectors 4 --chunk 128 --primary 4 --secondary 3
@@ -84,6 +86,14 @@ $ boot --sector 64 --unit 1 --max-sectors 1 --chunk 32 --primary 4 --secondary 3
 ! mcsim: E50 DoesNotFit; mcsim: image A has 80 bytes... 64 fit; mcsim: image B has 80 bytes... 64 fit; exit 1
 $ boot WORKED --kind test --image-a first --image-b in --verbose < 80:0=first,79=00
 ! mcsim: E12 WrongDigest in image B; mcsim: image B is in; exit 1
+$ locate WORKED --flash in --known-a first --known-b zeros --verbose < 1792:0=first
+! mcsim: E2 BadMagic in image B; mcsim: image B is zeros; exit 1
+$ boot WORKED --kind none --image-a in --image-b first --verbose < 16777217:0=ff
+! mcsim: E23 InputTooLong; mcsim: in has more than 16777216 bytes; exit 1
+$ inspect WORKED --flash in --known-a first --verbose < 1792:0=first
+! mcsim: E70 SourceOptions; mcsim: --known-a and --known-b go together; exit 2
+$ boot WORKED --kind test --image-a first --verbose
+! mcsim: E70 SourceOptions; mcsim: give --flash alone, or all of --kind, --image-a and --image-b; exit 2
 $ create --verbose PADDING in out < 12:0=3a3031303230333034303530
 ! mcsim: note: INFILE looks like Intel HEX, and create takes a binary (objcopy -O binary); exit 0
 => 84 bytes

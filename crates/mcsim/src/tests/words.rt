@@ -74,17 +74,17 @@ $ explore WORKED --flash a --cuts 17
 $ explore WORKED --flash a --cuts 0 --limit 0
 ! mcsim: --limit takes a number from 1 to 4294967295; exit 2
 $ explain 17
-! mcsim: no refusal has this number; exit 2
+! mcsim: no refusal has this number or name; exit 2
 $ explain 300
-! mcsim: no refusal has this number; exit 2
-$ explain Counts
-! mcsim: no refusal has this number; exit 2
+! mcsim: no refusal has this number or name; exit 2
+$ explain Count
+! mcsim: no refusal has this number or name; exit 2
 ";
 
 /// What is reported where no command is.
 const NO_WORDS: &str = "! ...Usage: mcsim [OPTIONS] <COMMAND>...exit 2\n";
 
-/// What a number, or a name, of a refusal means; and a line without a command.
+/// What a number or a name of a refusal means, and all of them; and a line without a command.
 const EXPLANATIONS: &str = "\
 $ explain 22
 E22 NeedsSlotSize, exit status 2
@@ -98,6 +98,18 @@ $ explain 40
 E40 NotErased, exit status 1
 A write met bytes that are not 0xff.
 In a life: request once behind a download. In a boot the result is fault.
+$ explain write
+E25 Write, exit status 3
+A write failed; what was written before is a prefix of the output.
+Check the disk or the pipe that the output goes to, and run the command again.
+E59 Write, exit status 3
+A write failed; what was written before is a prefix of the page.
+Check the disk or the pipe, and go on from the last printed cursor.
+$ explain
+E1 Truncated, exit status 1
+E2 BadMagic, exit status 1...
+E88 LayoutFile, exit status 2
+E89 NeverSwaps, exit status 2
 $ 
 ! ...Usage: mcsim [OPTIONS] <COMMAND>...exit 2
 ";
