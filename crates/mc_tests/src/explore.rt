@@ -6,5 +6,6 @@ mod kinds;
 mod large;
 mod pages;
 mod plain;
+mod replays;
 mod texts;
 mod writers;

@@ -1,9 +1,12 @@
 //! The worked images, byte for byte, and what no clause says.
 ghost use Rattle.std.specs.Prelude.{◌<◌, ◌≤◌, ◌^◌, length};
 
-use crate::common::same;
+use crate::common::{same, same_at};
 use mc_fixtures::{COUNTED_IMAGE, EMPTY_IMAGE, PAYLOAD, PLAIN_IMAGE};
-use mc_image::{Area, ImageError, ImageParts, ImageView, Judge, Judged, Tlv, Version, write_image};
+use mc_image::{
+    Area, ImageError, ImageParts, ImageView, Judge, Judged, Tlv, Version, VersionError, write_image,
+};
+use mc_trailer::MAGIC;
 use std::alloc::Global;
 use std::process::Abort;
 
@@ -39,7 +42,7 @@ fn writes(rt: &impl Abort, alloc: Global, before: &[u8], parts: &ImageParts, wan
 }
 
 /// The image of a payload, with an entry of no bytes after the digest: the plain area's total is 44 in place of 40.
-fn with_an_entry() -> [u8; 84] {
+pub fn with_an_entry() -> [u8; 84] {
     let mut image = [0; 84];
     image[..80].copy_from_slice(&PLAIN_IMAGE);
     image[42] = 0x2c;
@@ -159,19 +162,25 @@ fn first_difference(image: &[u8], most: usize) -> Option<usize>
     None
 }
 
+/// What a judge is to say of a worked image, whose digest stands at its end.
+fn judged_of(image: &[u8]) -> Judged
+    requires { 32 ≤ length image.now }
+{
+    let mut digest = [0; 32];
+    digest.copy_from_slice(&image[image.len() - 32..]);
+    Judged {
+        version: VERSION,
+        size: image.len() as u64,
+        digest,
+    }
+}
+
 /// Judges a worked image and each of its beginnings.
 fn is_judged(rt: &impl Abort, image: &[u8], most: usize)
     requires some { 0 < most }
     requires fits { (32 ≤ length image.now) × (length image.now ≤ 2 ^ 32) }
 {
-    let mut digest = [0; 32];
-    digest.copy_from_slice(&image[image.len() - 32..]);
-    let wanted = Judged {
-        version: VERSION,
-        size: image.len() as u64,
-        digest,
-    };
-    same(rt, &judged(image, most), &Ok(wanted));
+    same(rt, &judged(image, most), &Ok(judged_of(image)));
     same(rt, &first_difference(image, most), &None);
 }
 
@@ -181,5 +190,92 @@ fn worked_images_are_judged_in_any_pieces(rt: HostRuntime) {
         is_judged(&rt, &PLAIN_IMAGE, most);
         is_judged(&rt, &COUNTED_IMAGE, most);
         is_judged(&rt, &EMPTY_IMAGE, most);
+    }
+}
+
+/// The first fault of so many bytes of the image with a counter: its header, payload and protected area have 52 bytes, and the
+/// magic and the total of the plain area four more.
+fn fault_of(len: usize) -> ImageError {
+    match len {
+        0..=31 => ImageError::Truncated,
+        32..=51 => ImageError::TruncatedBody,
+        52..=55 => ImageError::BadTlvMagic,
+        _ => ImageError::BadTlvLength,
+    }
+}
+
+#[test]
+fn beginnings_of_an_image_have_their_first_faults(rt: HostRuntime) {
+    for len in 0..92usize {
+        let bytes = &COUNTED_IMAGE[..len];
+        let wanted = Some(fault_of(len));
+        same_at(&rt, &len, &ImageView::read(bytes).err(), &wanted);
+        same_at(&rt, &len, &judged(bytes, 7).err(), &wanted);
+    }
+}
+
+/// So many bytes of the image of a payload, and their first fault.
+static CUT: [(usize, ImageError); 4] = [
+    (31, ImageError::Truncated),
+    (39, ImageError::TruncatedBody),
+    (40, ImageError::BadTlvMagic),
+    (79, ImageError::BadTlvLength),
+];
+
+/// The image of a payload in a slot, confirmed.
+fn in_a_slot() -> [u8; 768] {
+    let mut slot = [0xff; 768];
+    slot[..80].copy_from_slice(&PLAIN_IMAGE);
+    slot[744] = 1;
+    slot[752..].copy_from_slice(&MAGIC);
+    slot
+}
+
+#[test]
+fn a_slot_and_cut_images_are_judged_in_any_pieces(rt: HostRuntime) {
+    let slot = in_a_slot();
+    let mut changed = PLAIN_IMAGE;
+    changed[32] ^= 1;
+    for most in [1, 7, 4096] {
+        same_at(
+            &rt,
+            &most,
+            &judged(&slot, most),
+            &Ok(judged_of(&PLAIN_IMAGE)),
+        );
+        let fault = judged(&changed, most).err();
+        same_at(&rt, &most, &fault, &Some(ImageError::WrongDigest));
+        for (len, wanted) in &CUT {
+            let fault = judged(&PLAIN_IMAGE[..(*len).min(80)], most).err();
+            same_at(&rt, &(most, len), &fault, &Some(*wanted));
+        }
+    }
+}
+
+/// Texts of versions, and what is read of them.
+static VERSIONS: [(&str, Result<[u32; 4], VersionError>); 6] = [
+    ("1", Ok([1, 0, 0, 0])),
+    ("1.2.3+4", Ok([1, 2, 3, 4])),
+    ("", Err(VersionError::Syntax)),
+    ("01", Err(VersionError::Syntax)),
+    ("1.2+4", Err(VersionError::Syntax)),
+    ("256", Err(VersionError::Range)),
+];
+
+/// The parts of the version that a text says.
+fn read(text: &str) -> Result<[u32; 4], VersionError> {
+    let version = Version::read(text)?;
+    Ok([
+        u32::from(version.major),
+        u32::from(version.minor),
+        u32::from(version.revision),
+        version.build,
+    ])
+}
+
+#[test]
+fn versions_are_read_or_refused(rt: HostRuntime) {
+    for (text, wanted) in &VERSIONS {
+        same_at(&rt, text, &read(*text), wanted);
     }
 }

@@ -3,6 +3,8 @@ mod faults;
 mod sizes;
 
 use crate::common::same;
+use crate::image::with_an_entry;
+use mc_fixtures::EMPTY_IMAGE;
 use mc_image::Version;
 use mc_imgtool::{CreateOptions, ToolError, create, dumpinfo, read_bounded, verify};
 use std::alloc::Global;
@@ -84,4 +86,39 @@ fn a_byte_beyond_the_limit_is_read(rt: HostRuntime) {
         &(refusal, rest.len()),
         &(Some(ToolError::InputTooLong), 999),
     );
+}
+
+/// The line for the image of no payload.
+const EMPTY_LINE: &str =
+    "good 1.2.3+4 72 3ce413fa4796e431acaae651e667b4013afceda157d645e92ff946a5465b4b18\n";
+
+/// The report of the image of a payload with an entry of no bytes after the digest.
+const ENTRY_REPORT: &str = "\
+magic 0x96f3b83d
+load 0x00000000
+header-size 32
+protected-size 0
+image-size 8
+flags 0x00000000
+version 1.2.3+4
+padding 0x00000000
+plain 0x0010 32 e075fa34895d34e01c03690deb09704ffa500ee946dcdb420ade67b58388aad4
+plain 0x0099 0
+total 84
+rest 0
+digest good
+";
+
+#[test]
+fn no_payload_and_an_empty_entry_are_shown(rt: HostRuntime) {
+    let mut empty = EMPTY_IMAGE.as_slice();
+    is_shown(&rt, rt.alloc(), Engine::Verify, &mut empty, EMPTY_LINE);
+    let image = with_an_entry();
+    is_shown(
+        &rt,
+        rt.alloc(),
+        Engine::Dumpinfo,
+        &mut image.as_slice(),
+        ENTRY_REPORT,
+    )
 }

@@ -1,8 +1,9 @@
 //! What explorations take of a flash with a journal.
 use super::common::swap;
+use crate::common::same_at;
 use mc_campaign::CampaignExplorer;
 use mc_explore::{Cursor, Explorer, Schedule, Start};
-use mc_flash::JournalFlash;
+use mc_flash::{Grain, JournalFlash, Layout, most_operations};
 use std::alloc::Global;
 use std::process::Abort;
 
@@ -71,4 +72,21 @@ fn campaigns_of(rt: &impl Abort, alloc: Global, start: &Start) -> u32 {
 fn an_exploration_of_campaigns_keeps_its_bounds(rt: HostRuntime) {
     let start = swap(&rt, rt.alloc());
     assert_eq!(rt; campaigns_of(&rt, rt.alloc(), &start), 42);
+}
+
+/// The most operations of a boot, in the worked layout by calls, and in one of units of one byte by units.
+static MOST: [([u32; 6], Grain, u64); 2] = [
+    ([256, 8, 4, 128, 4, 3], Grain::Call, 36),
+    ([64, 1, 4, 32, 4, 3], Grain::Unit, 444),
+];
+
+#[test]
+fn a_boot_has_no_more_operations(rt: HostRuntime) {
+    for (numbers, grain, wanted) in &MOST {
+        let [sector, unit, most, chunk, primary, secondary] = *numbers;
+        let layout = Layout::new(sector, unit, most, chunk, primary, secondary).expect(
+            &rt, "a layout",
+        );
+        same_at(&rt, numbers, &most_operations(&layout, *grain), wanted);
+    }
 }
