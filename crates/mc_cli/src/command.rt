@@ -12,6 +12,13 @@ static ABOUT: &str =
     "Checks MCUboot upgrades against power loss, and makes and inspects hash-only MCUboot images";
 
 static AFTER_HELP: &str = "\
+Which question is answered by which command:
+  is every sequence of power cuts safe?     census --cuts 16 --all-right
+  which sequences are there, ending how?    explore; survey counts a part of them
+  what happens in one of them?              trace, sectors, picture, replay
+  what is this dump of a device?            inspect; locate finds it in a swap
+  what becomes of a device, step by step?   life
+  does my own boot loader do the same?      vectors (and scripts/conform)
 Exit status: 0 done (whatever the outcome is), 1 content refused, 2 command line refused,
 3 file, write or memory error. A refusal is one line, as `mcsim: E33 Counts`;
 `mcsim explain 33` tells what it means.
