@@ -3,7 +3,7 @@ use Rattle.std.proofs.Common.{Bool, List, None, Option, Result, Some, false, not
 use Rattle.std.specs.Prelude.{IfSome, is_none, is_some}
 use Rattle.mc_boot.specs.Outcome.{Report}
 use Rattle.mc_explore.specs.{Right.{AllEndRight}, Survey.{AllEndInBoot}, declared.expectation.Expectation.{Expectation}, declared.rights.RightsOf.{RightsOf}}
-use Rattle.mc_command.specs.{Verdicts.{IsVerdict, is_of_slots, verdict_of}, declared.verdict.Asked.{Asked}}
+use Rattle.mc_command.specs.Verdicts.{IsVerdict, verdict_of}
 use Rattle.mc_options.specs.declared.refusal.Refusal.{Refusal}
 
 -- That holds where it was counted.
@@ -18,23 +18,22 @@ none_is None false is = absurd cc
 none_is (Some x) true is = absurd cc
 none_is (Some x) false is = refl
 
-module _ {R K : Type 0} (ends : R → Report) (a : Asked) (e : Expectation) (rows : List R) (rights : Option (RightsOf K)) where
+module _ {R K : Type 0} (ends : R → Report) (e : Expectation) (rows : List R) (rights : Option (RightsOf K)) where
   -- By what was asked, and by what holds.
-  by : (boot right : Bool) → a.all_boot ≡ boot → is_of_slots a ≡ right → (boots all whole : Bool) → ((boots ≡ true) ↔ AllEndInBoot ends rows)
-      → ((all ≡ true) ↔ IfSome rights (λ _. AllEndRight ends e rows)) → IsVerdict ends a e rows rights whole (verdict_of a boots all whole)
-  by true right asks_boot asks_right false all whole boots_is all_is = rw asks_boot (refl, λ boot. let no : false ≡ true = boots_is.1 boot in absurd (cc))
-  by true true asks_boot asks_right true false whole boots_is all_is =
-      rw (asks_boot, asks_right) (refl, λ good. let no : false ≡ true = all_is.1 (where_counted (AllEndRight ends e rows) rights good) in absurd (cc))
-  by true true asks_boot asks_right true true false boots_is all_is = rw (asks_boot, asks_right) (refl, refl)
-  by true true asks_boot asks_right true true true boots_is all_is = rw (asks_boot, asks_right) (λ _. boots_is.0 refl, λ _. all_is.0 refl, λ _. refl)
-  by true false asks_boot asks_right true all false boots_is all_is = rw (asks_boot, asks_right) (refl, refl)
-  by true false asks_boot asks_right true all true boots_is all_is = rw (asks_boot, asks_right) (λ _. boots_is.0 refl, λ no. absurd (cc), λ _. refl)
-  by false true asks_boot asks_right boots false whole boots_is all_is =
-      rw (asks_boot, asks_right) (refl, λ good. let no : false ≡ true = all_is.1 (where_counted (AllEndRight ends e rows) rights good) in absurd (cc))
-  by false true asks_boot asks_right boots true false boots_is all_is = rw (asks_boot, asks_right) (refl, refl)
-  by false true asks_boot asks_right boots true true boots_is all_is = rw (asks_boot, asks_right) (λ no. absurd (cc), λ _. all_is.0 refl, λ _. refl)
-  by false false asks_boot asks_right boots all whole boots_is all_is = rw (asks_boot, asks_right) (λ no. absurd (cc), λ no. absurd (cc), λ no. absurd (cc))
+  by : (of_boots of_slots boots all whole : Bool) → ((boots ≡ true) ↔ AllEndInBoot ends rows) → ((all ≡ true) ↔ IfSome rights (λ _. AllEndRight ends e rows))
+      → IsVerdict ends of_boots of_slots e rows rights whole (verdict_of of_boots of_slots boots all whole)
+  by true of_slots false all whole boots_is all_is = (refl, λ boot. let no : false ≡ true = boots_is.1 boot in absurd (cc))
+  by true true true false whole boots_is all_is = (refl, λ good. let no : false ≡ true = all_is.1 (where_counted (AllEndRight ends e rows) rights good) in absurd (cc))
+  by true true true true false boots_is all_is = (refl, refl)
+  by true true true true true boots_is all_is = (λ _. boots_is.0 refl, λ _. all_is.0 refl, λ _. refl)
+  by true false true all false boots_is all_is = (refl, refl)
+  by true false true all true boots_is all_is = (λ _. boots_is.0 refl, λ no. absurd (cc), λ _. refl)
+  by false true boots false whole boots_is all_is = (refl, λ good. let no : false ≡ true = all_is.1 (where_counted (AllEndRight ends e rows) rights good) in absurd (cc))
+  by false true boots true false boots_is all_is = (refl, refl)
+  by false true boots true true boots_is all_is = (λ no. absurd (cc), λ _. all_is.0 refl, λ _. refl)
+  by false false boots all whole boots_is all_is = (λ no. absurd (cc), λ no. absurd (cc), λ no. absurd (cc))
 
-  pub is_verdict : (boots all whole : Bool) (r : Result (Unit {0}) Refusal) → ((boots ≡ true) ↔ AllEndInBoot ends rows) → ((all ≡ true) ↔ IfSome rights (λ _. AllEndRight ends e rows))
-      → r ≡ verdict_of a boots all whole → IsVerdict ends a e rows rights whole r
-  is_verdict boots all whole r boots_is all_is is = rw is (by a.all_boot (is_of_slots a) refl refl boots all whole boots_is all_is)
+  pub is_verdict : (of_boots of_slots boots all whole : Bool) (r : Result (Unit {0}) Refusal) → ((boots ≡ true) ↔ AllEndInBoot ends rows)
+      → ((all ≡ true) ↔ IfSome rights (λ _. AllEndRight ends e rows)) → r ≡ verdict_of of_boots of_slots boots all whole
+      → IsVerdict ends of_boots of_slots e rows rights whole r
+  is_verdict of_boots of_slots boots all whole r boots_is all_is is = rw is (by of_boots of_slots boots all whole boots_is all_is)

@@ -86,21 +86,21 @@ lines_of x (Some rights) = rights_text x rights
 abbrev pub is_whole : {R U : Type 0} → Page R U → Bool
 is_whole page = is_none page.goes_on && not (length page.rows == 0)
 
--- The first of what was asked for that does not hold.
-abbrev pub verdict_of : Asked → Bool → Bool → Bool → Result (Unit {0}) Refusal
-verdict_of a boots right whole =
-    if a.all_boot && not boots then Err refusals.NotAllBoot
-    else if is_of_slots a && not right then Err refusals.NotAllRight
-    else if is_any a && not whole then Err refusals.NotWhole
+-- The first of what was asked for that does not hold: that each row boots, that each is right, and that there are no more.
+abbrev pub verdict_of : Bool → Bool → Bool → Bool → Bool → Result (Unit {0}) Refusal
+verdict_of of_boots of_slots boots right whole =
+    if of_boots && not boots then Err refusals.NotAllBoot
+    else if of_slots && not right then Err refusals.NotAllRight
+    else if (of_slots || of_boots) && not whole then Err refusals.NotWhole
     else Ok tt
 
 -- How a survey or a census of some rows ends: with the first of what was asked for that does not hold. A part of the rows to come is
 -- no verdict.
-abbrev pub IsVerdict : {R K : Type 0} → (R → Report) → Asked → Expectation → List R → Option (RightsOf K) → Bool → Result (Unit {0}) Refusal → Type 0
-IsVerdict ends a e rows rights whole (Ok done) =
-    (a.all_boot ≡ true → AllEndInBoot ends rows) × (is_of_slots a ≡ true → IfSome rights (λ _. AllEndRight ends e rows))
-    × (is_any a ≡ true → whole ≡ true)
-IsVerdict ends a e rows rights whole (Err refusals.NotAllBoot) = (a.all_boot ≡ true) × (AllEndInBoot ends rows → ⊥)
-IsVerdict ends a e rows rights whole (Err refusals.NotAllRight) = (is_of_slots a ≡ true) × (AllEndRight ends e rows → ⊥)
-IsVerdict ends a e rows rights whole (Err refusals.NotWhole) = (is_any a ≡ true) × (whole ≡ false)
-IsVerdict ends a e rows rights whole (Err refusal) = ⊥
+abbrev pub IsVerdict : {R K : Type 0} → (R → Report) → Bool → Bool → Expectation → List R → Option (RightsOf K) → Bool → Result (Unit {0}) Refusal → Type 0
+IsVerdict ends of_boots of_slots e rows rights whole (Ok done) =
+    (of_boots ≡ true → AllEndInBoot ends rows) × (of_slots ≡ true → IfSome rights (λ _. AllEndRight ends e rows))
+    × ((of_slots || of_boots) ≡ true → whole ≡ true)
+IsVerdict ends of_boots of_slots e rows rights whole (Err refusals.NotAllBoot) = (of_boots ≡ true) × (AllEndInBoot ends rows → ⊥)
+IsVerdict ends of_boots of_slots e rows rights whole (Err refusals.NotAllRight) = (of_slots ≡ true) × (AllEndRight ends e rows → ⊥)
+IsVerdict ends of_boots of_slots e rows rights whole (Err refusals.NotWhole) = ((of_slots || of_boots) ≡ true) × (whole ≡ false)
+IsVerdict ends of_boots of_slots e rows rights whole (Err refusal) = ⊥

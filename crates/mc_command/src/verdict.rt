@@ -184,7 +184,7 @@ impl Asked {
     /// The first of `NotAllBoot`, `NotAllRight` and `NotWhole` that was asked for and does not hold. What is said of a slot is asked of
     /// each row.
     pub fn verdict(&self, boots: bool, right: bool, whole: bool) -> Result<(), Refusal>
-        ensures { result ≡ verdict_of self.now boots right whole }
+        ensures { result ≡ verdict_of self.now.all_boot (is_of_slots self.now) boots right whole }
     {
         if self.all_boot && !boots {
             return Err(Refusal::NotAllBoot);

@@ -4,7 +4,7 @@ ghost use Rattle.mc_explore.specs.Census.{census_by};
 ghost use Rattle.mc_explore.specs.declared.expectation.Expectation.{Expectation as Expected};
 ghost use Rattle.clap.specs.Matches.{found_of};
 ghost use Rattle.mc_command.specs.Sessions.{AreCounts, AreRightsIf, GivesWanted};
-ghost use Rattle.mc_command.specs.Verdicts.{AreCounted, IsVerdict};
+ghost use Rattle.mc_command.specs.Verdicts.{AreCounted, IsVerdict, is_of_slots};
 ghost use Rattle.mc_start.specs.Start.{begun};
 
 use super::explore::{ends, is_taken_back};
@@ -142,7 +142,8 @@ fn judge<X: Explorable>(counts: &Counts<X::Key>, asked: &Asked) -> Result<(), Re
     ensures { (e : Expected) (rows : List X.Shown) → counts.now.census
         ≡ census_by X.subject.ends X.subject.key rows
         → AreCounted X.subject e rows counts.now.rights
-        → IsVerdict X.subject.ends asked.now e rows counts.now.rights true result }
+        → IsVerdict X.subject.ends asked.now.all_boot (is_of_slots asked.now) e rows
+        counts.now.rights true result }
 {
     let boots = each_boots::<X>(&counts.census);
     let right = right_if_asked::<X>(&counts.rights);

@@ -32,18 +32,33 @@ pub fn run<O: Write>(arguments: &ArgMatches<'_>, out: &mut O) -> Result<(), Refu
 fn explain_named<O: Write>(name: &str, out: &mut O) -> Result<(), Refusal> {
     let mut is_found = false;
     for explanations in all_explanations() {
-        for explanation in explanations {
-            if explanation.name.eq_ignore_ascii_case(name) {
-                is_found = true;
-                write_whole(explanation, out)?;
-            }
-        }
+        is_found = write_named(explanations, name, out)? || is_found;
     }
     if is_found {
         Ok(())
     } else {
         Err(Refusal::Unexplained)
     }
+}
+
+/// Prints what those of some refusals mean that have a name, and whether there are any.
+///
+/// # Errors
+///
+/// `Write`.
+fn write_named<O: Write>(
+    explanations: &[Explanation],
+    name: &str,
+    out: &mut O,
+) -> Result<bool, Refusal> {
+    let mut is_found = false;
+    for explanation in explanations {
+        if explanation.name.eq_ignore_ascii_case(name) {
+            is_found = true;
+            write_whole(explanation, out)?;
+        }
+    }
+    Ok(is_found)
 }
 
 /// Prints all refusals, a line each.
@@ -53,9 +68,19 @@ fn explain_named<O: Write>(name: &str, out: &mut O) -> Result<(), Refusal> {
 /// `Write`.
 fn list<O: Write>(out: &mut O) -> Result<(), Refusal> {
     for explanations in all_explanations() {
-        for explanation in explanations {
-            write_head(explanation, out)?;
-        }
+        write_heads(explanations, out)?;
+    }
+    Ok(())
+}
+
+/// Prints some refusals, a line each.
+///
+/// # Errors
+///
+/// `Write`.
+fn write_heads<O: Write>(explanations: &[Explanation], out: &mut O) -> Result<(), Refusal> {
+    for explanation in explanations {
+        write_head(explanation, out)?;
     }
     Ok(())
 }

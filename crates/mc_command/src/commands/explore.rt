@@ -7,7 +7,7 @@ ghost use Rattle.mc_explore.specs.Pages.{Page};
 ghost use Rattle.mc_explore.specs.Survey.{tally_by, tally_text};
 ghost use Rattle.mc_explore.specs.declared.expectation.Expectation.{Expectation as Expected};
 ghost use Rattle.mc_command.specs.Sessions.{Explores, PrintsUntil, TalliesAsked, TalliesUntil, GivesExploration, back_from, ends_of};
-ghost use Rattle.mc_command.specs.Verdicts.{AreCounted, IsExpectation, IsVerdict, is_whole, lines_of};
+ghost use Rattle.mc_command.specs.Verdicts.{AreCounted, IsExpectation, IsVerdict, is_of_slots, is_whole, lines_of};
 ghost use Rattle.mc_boot.specs.Plan.{identity_of};
 
 use super::{finish, in_blocks};
@@ -16,7 +16,7 @@ use crate::verdict::{Asked, right_if_asked, write_lines};
 use clap::ArgMatches;
 use mc_boot::ImageId;
 use mc_explore::{
-    Expectation, ExploreError, OfStart, RightsOf, Start, TallyOf, TreeExplorer, all_boot,
+    Expectation, ExploreError, OfStart, RightsOf, Start, Subject, TallyOf, TreeExplorer, all_boot,
     survey_rows, write_rows, write_tally,
 };
 use mc_flash::JournalFlash;
@@ -273,6 +273,14 @@ pub fn survey<'a, X: Explorable + OfStart<'a>, O: Write>(
     judge::<X>(&tally, &rights, asked)
 }
 
+/// Whether the rows that were counted are all that there are, and there are some.
+fn is_whole<X: Subject>(tally: &TallyOf<X::Cursor>) -> bool
+    ensures { (page : Page X.Shown X.Cursor) → tally.now ≡ tally_by X.subject.ends page
+        → result ≡ is_whole page }
+{
+    tally.next.is_none() && tally.rows != 0
+}
+
 /// The verdict on the rows that were counted.
 ///
 /// # Errors
@@ -285,9 +293,10 @@ fn judge<X: Explorable>(
 ) -> Result<(), Refusal>
     ensures { (e : Expected) (page : Page X.Shown X.Cursor) → tally.now
         ≡ tally_by X.subject.ends page → AreCounted X.subject e page.rows rights.now
-        → IsVerdict X.subject.ends asked.now e page.rows rights.now (is_whole page) result }
+        → IsVerdict X.subject.ends asked.now.all_boot (is_of_slots asked.now) e page.rows rights.now
+        (is_whole page) result }
 {
     let boots = all_boot::<X>(tally);
     let right = right_if_asked::<X>(rights);
-    asked.verdict(boots, right, tally.next.is_none() && tally.rows != 0)
+    asked.verdict(boots, right, is_whole::<X>(tally))
 }
