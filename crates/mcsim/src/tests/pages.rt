@@ -121,6 +121,12 @@ $ explore WORKED --kind test IMAGES --cuts 1 --until 3 --limit 2
 - boot test 18 2.0.0+0/80 1.0.0+0/80 revert; 0 boot test 18 2.0.0+0/80 1.0.0+0/80 revert; next mc1:START:1:0
 $ explore WORKED --flash in --cuts 2 --all-right < BEGUN
 ! mcsim: E85 NoExpectation; exit 2
+$ explore WORKED --flash in --cuts 2 < 1792:1776=MAGIC
+- none fail 0 none none fail; end
+$ explore WORKED --flash in --cuts 2 < BEGUN,984=02
+- panic panic 0 none none panic; end
+$ explore WORKED --flash in --cuts 2 < BEGUN
+- none none 0 none none none; end
 $ survey WORKED --kind test IMAGES --cuts 3
 rows 1000; boot 1000; none 0; panic 0; fault 0; most-ops 18; next mc1:START:3:4.5.13
 $ explore WORKED --kind none IMAGES --cuts 0 --limit 1

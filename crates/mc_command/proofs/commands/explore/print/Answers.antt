@@ -1,12 +1,12 @@
 use Rattle.mc_command.proofs.Blocks.{appended}
 use Rattle.mc_command.proofs.commands.explore.print.Goals as goal
 
-pub returns : goal.returns
-returns g c =
+pub returns-in-Ok : goal.returns-in-Ok
+returns-in-Ok g c =
     let page = c.in_ok-write_rows.ensures.page in
     record {
       explorer = c.in_ok-explorer.explorer;
       begins = c.in_ok-explorer.ensures;
       new = _;
-      out = record { page = page.page; taken = page.taken; out = appended _ _ _ _ _ c.in_ok-blocks.ensures page.out c.in_ok-finish.ensures };
+      out = record { page = page.page; taken = page.taken; out = appended _ _ _ _ _ c.in_ok-blocks.ensures page.out c.in-Ok.ensures };
     }
