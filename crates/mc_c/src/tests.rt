@@ -116,11 +116,45 @@ fn image(rt: &impl Abort, alloc: Global, version: &str) -> Vec<u8> {
     written(rt, alloc, &[], &[], &(words.as_str(), 0, "", ""))
 }
 
-/// Bytes `0xff` but for those at some offsets, up to the last of these.
-fn laid(rt: &impl Abort, alloc: Global, parts: &[(usize, &[u8])]) -> Vec<u8> {
+/// What lies at an offset, by its name.
+type Part = (usize, &'static str);
+
+/// The flash of the start, and the one that the whole boot from there leaves.
+static START: [Part; 4] = [(0, "a"), (1024, "b"), (1776, "magic"), (1792, "")];
+
+static LEFT: [Part; 11] = [
+    (0, "b"),
+    (256, "a"),
+    (880, "set"),
+    (912, "set"),
+    (920, "set"),
+    (976, "size"),
+    (984, "test"),
+    (992, "set"),
+    (1008, "magic"),
+    (1024, "a"),
+    (1792, ""),
+];
+
+/// The bytes of a name.
+fn named<'a>(name: &str, a: &'a [u8], b: &'a [u8]) -> &'a [u8] {
+    match name {
+        "a" => a,
+        "b" => b,
+        "magic" => &MAGIC,
+        "set" => &[1],
+        "test" => &[2],
+        "size" => &[80, 0, 0, 0],
+        _ => &[],
+    }
+}
+
+/// Bytes `0xff` but for those parts, up to the last of them.
+fn laid(rt: &impl Abort, alloc: Global, a: &[u8], b: &[u8], parts: &[Part]) -> Vec<u8> {
     let mut bytes = Vec::new(alloc);
-    for (offset, part) in parts {
+    for (offset, name) in parts {
         bytes.resize(*offset, 0xff).expect(rt, "memory");
+        let part = named(*name, a, b);
         bytes.extend_from_slice(part).expect(rt, "memory");
     }
     bytes
@@ -234,7 +268,7 @@ fn gives_counts(rt: &impl Abort, alloc: Global, a: &[u8], b: &[u8]) {
 /// Looks at the flash at the last cut of a schedule, and at the one that is left.
 fn gives_flashes(rt: &impl Abort, alloc: Global, a: &[u8], b: &[u8]) {
     let (mut out, mut count) = (room(rt, alloc), 0);
-    let cut = laid(rt, alloc, &[(0, a), (1024, b), (1776, &MAGIC), (1792, &[])]);
+    let cut = laid(rt, alloc, a, b, &START);
     let told = mcsim_flash_at_cut(alloc, &WORKED, a, b, &[0], out.as_mut_slice(), &mut count);
     gives(
         rt,
@@ -242,20 +276,7 @@ fn gives_flashes(rt: &impl Abort, alloc: Global, a: &[u8], b: &[u8]) {
         (told, out.as_slice(), count),
         (0, cut.as_slice()),
     );
-    let parts: [(usize, &[u8]); 11] = [
-        (0, b),
-        (256, a),
-        (880, &[1]),
-        (912, &[1]),
-        (920, &[1]),
-        (976, &[80, 0, 0, 0]),
-        (984, &[2]),
-        (992, &[1]),
-        (1008, &MAGIC),
-        (1024, a),
-        (1792, &[]),
-    ];
-    let left = laid(rt, alloc, &parts);
+    let left = laid(rt, alloc, a, b, &LEFT);
     let told = mcsim_flash_left(alloc, &WORKED, a, b, &[0], out.as_mut_slice(), &mut count);
     gives(
         rt,
