@@ -7,7 +7,7 @@ ghost use Rattle.mc_explore.specs.Pages.{Page};
 ghost use Rattle.mc_explore.specs.Survey.{tally_by, tally_text};
 ghost use Rattle.mc_explore.specs.declared.expectation.Expectation.{Expectation as Expected};
 ghost use Rattle.mc_command.specs.Sessions.{Explores, PrintsUntil, TalliesAsked, TalliesUntil, GivesExploration, back_from, ends_of};
-ghost use Rattle.mc_command.specs.Verdicts.{AreCounted, IsExpectation, IsVerdict, is_of_slots, is_whole, lines_of};
+ghost use Rattle.mc_command.specs.Verdicts.{GivesAsked, AreCounted, IsExpectation, IsVerdict, is_of_slots, is_whole, lines_of};
 ghost use Rattle.mc_boot.specs.Plan.{identity_of};
 
 use super::{finish, in_blocks};
@@ -215,7 +215,11 @@ pub fn ask<X: Explorable, F: Files>(
     alloc: Global,
     arguments: &ArgMatches<'_>,
 ) -> Result<(Asked, Exploration<X::Choice, X::Cursor, X::Key>), Refusal>
-    ensures { IfOk result (λ given. (given.1.extent.cuts ≤ 16) × (1 ≤ given.1.extent.limit)) }
+    ensures asked { IfOk result (λ given. GivesAsked (found_of arguments.now) given.0) }
+    ensures given { IfOk result (λ given. GivesExploration X.subject X.IsChoice X.is_taken_back
+        (found_of arguments.now) given.1) }
+    ensures range { IfOk result (λ given. (given.1.extent.cuts ≤ 16)
+        × (1 ≤ given.1.extent.limit)) }
 {
     let asked = Asked::read(arguments)?;
     let exploration = read::<X, F>(files, alloc, arguments, &asked)?;

@@ -98,13 +98,13 @@ $ explain 40
 E40 NotErased, exit status 1
 A write met bytes that are not 0xff.
 In a life: request once behind a download. In a boot the result is fault.
-$ explain write
-E25 Write, exit status 3
-A write failed; what was written before is a prefix of the output.
-Check the disk or the pipe that the output goes to, and run the command again.
-E59 Write, exit status 3
-A write failed; what was written before is a prefix of the page.
-Check the disk or the pipe, and go on from the last printed cursor.
+$ explain syntax
+E15 Syntax, exit status 2
+The version is not major[.minor[.revision[+build]]] in decimal without leading zeros.
+Write it as 1.2.3+4.
+E55 Syntax, exit status 2
+The text is not a cursor.
+Copy the whole word after next, in lower case.
 $ explain
 E1 Truncated, exit status 1
 E2 BadMagic, exit status 1...

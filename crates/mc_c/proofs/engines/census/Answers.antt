@@ -5,4 +5,4 @@ pub returns-in-Err : goal.returns-in-Err
 returns-in-Err c = inr (omega (arith, c.if-bound.false), inl (c.in_ok-start.start, c.in_ok-start.ensures, rw c.in-Err.ensures.err refl))
 
 pub returns : goal.returns
-returns c = inr (omega (arith, c.if-bound.false), inl (c.in_ok-start.start, c.in_ok-start.ensures, rw c.in-Err-write_census.ensures.err refl))
+returns c = inr (omega (arith, c.if-bound.false), inl (c.in_ok-start.start, c.in_ok-start.ensures, refl))
