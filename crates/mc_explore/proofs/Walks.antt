@@ -8,7 +8,7 @@ use Rattle.mc_explore.specs.{declared.one_round.Summary.{Summary}, facts.Followi
 use Rattle.mc_explore.specs.{inner.OneRound.{IsSummary, begins, begun_of, one_round}, inner.View.{Followed, IsLoaded}}
 use Rattle.mc_explore.specs.Boots.{boots}
 use Rattle.mc_flash.specs.{Flash.{Content}, Usage.{Allows, Limits, Seen, Spent, most_operations}}
-use Rattle.mc_tree.specs.{Tree.{Allowed, landed}}
+use Rattle.mc_tree.specs.{Tree.{landed}}
 use Rattle.mc_walk.specs.{TreeModel.{summary_cost}, Walks.{Begins, Follows, IsSame, IsThere, Walked, path_cost}}
 use Rattle.mc_tree.specs.Tree as tree
 

@@ -1,5 +1,5 @@
 -- What is said of a list of bytes as an image: its first fault, or version, size and digest.
-use Rattle.std.specs.Prelude.{Err, List, None, Ok, Option, Result, Some, length, ℕ, ◌≡◌}
+use Rattle.std.specs.Prelude.{Err, List, None, Ok, Option, Result, Some, length, ℕ}
 use Rattle.mc_image.specs.{Image.{Image, digest_of, image_in, image_text}, Valid.{image_fault}}
 use Rattle.mc_image.specs.{declared.error.ImageError.{ImageError}, declared.judge.Judged.{Judged}}
 

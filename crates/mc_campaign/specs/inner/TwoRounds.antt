@@ -1,13 +1,13 @@
 -- The tree of two rounds of boots, and how a walk goes through it.
 use Rattle.std.proofs.Common.{arith, subst, sym}
-use Rattle.std.specs.Prelude.{Bool, List, length, ℕ, ◌-◌, ◌<◌, ◌≡◌, ◌≤◌}
-use Rattle.mc_boot.specs.{Boot.{left_of, progress}, Outcome.{left_by, ops_of}, Plan.{PowerOn, again}, Restart.{confirmed_if, one_write}}
+use Rattle.std.specs.Prelude.{Bool, length, ℕ, ◌-◌, ◌<◌, ◌≡◌, ◌≤◌}
+use Rattle.mc_boot.specs.{Boot.{left_of, progress}, Outcome.{ops_of}, Plan.{PowerOn}, Restart.{one_write}}
 use Rattle.mc_boot.specs.declared.boot.Boot.{Boot}
 use Rattle.mc_campaign.specs.{declared.campaign.Round.{Round}, declared.rounds.Both.{Both}, declared.rounds.ChildBoot.{ChildBoot}, declared.rounds.TwoRounds.{TwoRounds}}
 use Rattle.mc_explore.specs.{declared.one_round.Summary.{Summary}, inner.OneRound.{begins, most_of, one_round}}
-use Rattle.mc_explore.specs.Boots.{boots, content_or}
+use Rattle.mc_explore.specs.Boots.{boots}
 use Rattle.mc_flash.specs.Usage.{Counts, LeaveRoom, no_counts, plus}
-use Rattle.mc_tree.specs.{Tree.{RoundNode, Tree, round_one, labels, round_two, two_rounds}, facts.Rounds.{child_second}}
+use Rattle.mc_tree.specs.{Tree.{RoundNode, round_one, round_two}, facts.Rounds.{child_second}}
 use Rattle.mc_walk.specs.TreeModel.{TreeModel}
 use Rattle.mc_campaign.specs.declared.campaign.Round.TheVariants as rounds_of
 use Rattle.mc_tree.specs.Tree as tree

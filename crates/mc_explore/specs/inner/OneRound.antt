@@ -1,14 +1,13 @@
 -- The tree of boots that are cut, and how a walk goes through it.
 use Rattle.std.proofs.Common.{arith}
-use Rattle.std.specs.Prelude.{Err, List, None, Ok, Option, Result, Some, [], length, ℕ, ◌+◌, ◌<◌, ◌∷◌, ◌≡◌}
-use Rattle.mc_boot.specs.{Boot.{HasCome, IsBootOf, IsBounded, IsCold, all_of, begun, left_of, progress}, Outcome.{at, left_by, ops_of, outcome_of, shown}}
+use Rattle.std.specs.Prelude.{Err, List, Ok, Result, Some, [], length, ℕ, ◌+◌, ◌<◌, ◌∷◌, ◌≡◌}
+use Rattle.mc_boot.specs.{Boot.{HasCome, IsBootOf, IsBounded, IsCold, all_of, begun, left_of, progress}, Outcome.{left_by, ops_of, outcome_of, shown}}
 use Rattle.mc_boot.specs.{Plan.{PowerOn, again, plan}, SharedTail.{IsSharedTail}, declared.boot.Boot.{Boot}}
 use Rattle.mc_boot.specs.declared.shared_tail.SharedTail.{SharedTail}
 use Rattle.mc_explore.specs.{declared.one_round.OneRound.{OneRound}, declared.one_round.Summary.{Summary}}
 use Rattle.mc_flash.specs.Flash.{Content, IsSized}
 use Rattle.mc_flash.specs.Usage.{Allows, Counts, Keeps, LeaveRoom, Seen, most_operations, most_saved, no_counts, plus}
 use Rattle.mc_start.specs.Start as starts
-use Rattle.mc_tree.specs.Tree.{Tree}
 use Rattle.mc_explore.specs.Boots.{at_cut, boots}
 use Rattle.mc_walk.specs.{TreeModel.{IsAt, TreeModel}, Walks.{Walked}}
 

@@ -1,9 +1,9 @@
 -- Where a judge stands in the bytes that it was fed.
-use Rattle.std.specs.Prelude.{Err, List, None, Ok, Option, Result, Some, drop, length, ℕ, ◌++◌, ◌+◌, ◌<◌, ◌≡◌, ◌≤◌}
-use Rattle.mc_image.specs.Image.{Image, IsBytes, digest_of, image_in, image_text, payload_end, protected_end, u16_at}
-use Rattle.mc_image.specs.{Valid.{header_fault, image_fault, protected_fault}, declared.areas.ProtectedArea.{ProtectedArea}}
-use Rattle.mc_image.specs.{declared.areas.EntryScan.{EntryScan}, declared.error.ImageError.{ImageError}, declared.header.Header.{Header}}
-use Rattle.mc_image.specs.{declared.judge.Judge.{Judge}, declared.judge.Judged.{Judged}, declared.judge.Sealed.{Sealed}, declared.judge.Stage.{Stage}}
+use Rattle.std.specs.Prelude.{List, None, drop, length, ℕ, ◌++◌, ◌+◌, ◌<◌, ◌≡◌, ◌≤◌}
+use Rattle.mc_image.specs.Image.{IsBytes, payload_end, protected_end, u16_at}
+use Rattle.mc_image.specs.{Valid.{header_fault, protected_fault}, declared.areas.ProtectedArea.{ProtectedArea}}
+use Rattle.mc_image.specs.{declared.areas.EntryScan.{EntryScan}, declared.header.Header.{Header}}
+use Rattle.mc_image.specs.{declared.judge.Sealed.{Sealed}, declared.judge.Stage.{Stage}}
 use Rattle.mc_image.specs.inner.Reading.{Follows, IsHeader, Scans, head_fault, held}
 use Rattle.mc_image.specs.Verdict.{verdict}
 use Rattle.sha2.specs.{Hashers.{Holds256}, Sha256.{sha256}, declared.Sha256.{Sha256}}
