@@ -382,7 +382,7 @@ static EXPLORATIONS: [Explanation; 13] = [
     },
 ];
 
-static COMMANDS: [Explanation; 19] = [
+static COMMANDS: [Explanation; 21] = [
     Explanation {
         number: 70,
         name: "SourceOptions",
@@ -450,7 +450,7 @@ static COMMANDS: [Explanation; 19] = [
         number: 80,
         name: "NotThatLong",
         status: 1,
-        when: "What is downloaded is longer than the secondary, or what is stored is not exactly as long.",
+        when: "What is downloaded or written is longer than the file or the secondary, or what is stored is not exactly as long.",
         remedy: "Check the file and the layout's numbers.",
     },
     Explanation {
@@ -515,5 +515,19 @@ static COMMANDS: [Explanation; 19] = [
         status: 2,
         when: "A verdict is asked of a layout with which MCUboot swaps nothing: --max-sectors is below --primary.",
         remedy: "Raise CONFIG_BOOT_MAX_IMG_SECTORS, and --max-sectors with it, or make the slots smaller.",
+    },
+    Explanation {
+        number: 90,
+        name: "NotAligned",
+        status: 1,
+        when: "A write of a running image begins within a write unit.",
+        remedy: "Begin it at a multiple of the layout's unit.",
+    },
+    Explanation {
+        number: 91,
+        name: "LargePicture",
+        status: 2,
+        when: "A picture would show more than 20,000 operations, which no browser takes well.",
+        remedy: "Give --from and --to: the numbers of the first and the last operation of each boot to show.",
     },
 ];

@@ -1,11 +1,13 @@
-//! The command line of `mcsim` as clap reads it, with its help; what each refusal means; and files that remember which of them
-//! could not be opened.
+//! The command line of `mcsim` as clap reads it, with its help; what each refusal means; what stands for imgtool's other options; and
+//! files and a writer that remember what failed.
 #![tactic(auto)]
 
 mod command;
 mod explanations;
+mod imgtool;
 mod watched;
 
 pub use command::parse;
 pub use explanations::{Explanation, all_explanations, explanation_of};
-pub use watched::{Unopened, WatchedFiles};
+pub use imgtool::left_out;
+pub use watched::{Unopened, WatchedFiles, WatchedWriter};

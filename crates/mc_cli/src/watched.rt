@@ -1,8 +1,9 @@
-//! Files that remember which of them was opened last, and why one could not be opened.
+//! Files that remember which of them was opened last, and why one could not be opened; a writer that remembers why a write failed.
 use std::alloc::{Allocator, Global};
 use std::cell::RefCell;
 use std::fs::{Metadata, OpenOptions, Permissions};
 use std::io;
+use std::io::{ErrorKind, Write};
 use std::path::PathBuf;
 use std::rt::Files;
 
@@ -13,13 +14,14 @@ pub struct Unopened {
     pub error: io::Error,
 }
 
-/// The same files, with the last that was opened, and the last that could not be opened or made.
+/// The same files, with the last that was opened, the last that could not be opened or made, and a line of one that is refused.
 #[derive(Drop)]
 pub struct WatchedFiles<'f, F: Files> {
     files: &'f F,
     alloc: Global,
     opened: RefCell<Option<String>>,
     unopened: RefCell<Option<Unopened>>,
+    line: RefCell<Option<String>>,
 }
 
 impl<'f, F: Files> WatchedFiles<'f, F> {
@@ -30,6 +32,7 @@ impl<'f, F: Files> WatchedFiles<'f, F> {
             alloc,
             opened: RefCell::new(None),
             unopened: RefCell::new(None),
+            line: RefCell::new(None),
         }
     }
 
@@ -37,6 +40,21 @@ impl<'f, F: Files> WatchedFiles<'f, F> {
     pub fn take_opened(&self) -> Option<String> {
         match self.opened.try_borrow_mut() {
             Ok(mut opened) => opened.take(),
+            Err(_) => None,
+        }
+    }
+
+    /// Remembers the line of a script that is refused, if there is memory for it.
+    pub fn keep_line(&self, text: &str) {
+        if let Ok(mut line) = self.line.try_borrow_mut() {
+            *line = String::from_str(self.alloc, text).ok();
+        }
+    }
+
+    /// Hands out the line that was remembered, if there is one.
+    pub fn take_line(&self) -> Option<String> {
+        match self.line.try_borrow_mut() {
+            Ok(mut line) => line.take(),
             Err(_) => None,
         }
     }
@@ -110,5 +128,45 @@ impl<F: Files> Files for WatchedFiles<'_, F> {
 
     fn remove_dir_all<B: Allocator>(&self, alloc: B, path: &str) -> io::Result<()> {
         self.files.remove_dir_all(alloc, path)
+    }
+}
+
+/// The same writer, with why its last write failed, if it did.
+#[derive(Drop)]
+pub struct WatchedWriter<'w, W: Write> {
+    writer: &'w mut W,
+    failure: Option<io::Error>,
+}
+
+impl<'w, W: Write> WatchedWriter<'w, W> {
+    /// No write failed yet.
+    pub fn new(writer: &'w mut W) -> WatchedWriter<'w, W> {
+        WatchedWriter {
+            writer,
+            failure: None,
+        }
+    }
+
+    /// Why the last write failed, or that it took no bytes, if it did.
+    pub fn failure(&self) -> Option<io::Error> {
+        self.failure
+    }
+}
+
+impl<W: Write> Write for WatchedWriter<'_, W> {
+    ghost contents = { λ w. W.contents w.writer.now };
+
+    fn write(&mut self, buf: &[u8]) -> io::Result<usize> {
+        let written = self.writer.write(buf);
+        self.failure = match &written {
+            Ok(0) => Some(io::Error::from(ErrorKind::WriteZero)),
+            Ok(_) => None,
+            Err(error) => Some(*error),
+        };
+        written
+    }
+
+    fn flush(&mut self) -> io::Result<()> {
+        self.writer.flush()
     }
 }

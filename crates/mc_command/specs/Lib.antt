@@ -2,3 +2,4 @@ pub mod Inspections
 pub mod Verdicts
 pub mod Sessions
 pub mod Vectors
+pub mod Pictures

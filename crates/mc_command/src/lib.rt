@@ -13,11 +13,11 @@ use clap::{ArgMatches, Error};
 use commands::rounds::{RoundText, print as print_rounds};
 use commands::{census, explore};
 use mc_campaign::TwoRounds;
-use mc_cli::{WatchedFiles, parse};
+use mc_cli::{WatchedFiles, WatchedWriter, left_out, parse};
 use mc_explore::OneRound;
 use mc_options::{
-    Refusal, asks_file, has_two_rounds, print_note, report_file, report_reason, span_options,
-    view_options, with_files,
+    Refusal, asks_file, has_two_rounds, print_cost, print_note, report_file, report_reason,
+    span_options, view_options, with_files,
 };
 use std::alloc::Global;
 use std::io::{Read, Write};
@@ -67,32 +67,46 @@ fn run_words<F: Files, R: Read, O: Write, E: Write>(
 {
     let matches = match parse(alloc, words) {
         Ok(matches) => matches,
-        Err(error) => return answer_of_clap(&error, out, err),
+        Err(error) => return answer_of_clap(words, &error, out, err),
     };
     let Some((name, arguments)) = matches.subcommand() else {
         return Refusal::Argument.report(err);
     };
-    let Err(refusal) = run_command(&files, alloc, name, arguments, input, out) else {
-        // A note that cannot be written changes nothing.
+    // What is said beside the output, and cannot be written, changes nothing.
+    let _ = print_cost(name, arguments, err);
+    let mut watched = WatchedWriter::new(out);
+    let Err(refusal) = run_command(&files, alloc, name, arguments, input, &mut watched, err) else {
         let _ = print_note(&files, name, arguments, err);
         return 0;
     };
     let status = refusal.report(err);
     if arguments.get_flag("verbose") {
-        let _ = report_reason(files, alloc, arguments, &refusal, err);
+        let _ = match watched.failure() {
+            Some(error) => writeln!(err, "mcsim: standard output: {error}"),
+            None => report_reason(files, alloc, arguments, &refusal, err),
+        };
     }
     status
 }
 
-/// Prints clap's help, or its refusal of a command line, and returns the status.
-fn answer_of_clap<O: Write, E: Write>(error: &Error, out: &mut O, err: &mut E) -> u8
+/// Prints clap's help, or its refusal of a command line, and returns the status. Where `create` is given an option of imgtool that is left
+/// out, what does that is printed instead.
+fn answer_of_clap<O: Write, E: Write>(
+    words: &[String],
+    error: &Error,
+    out: &mut O,
+    err: &mut E,
+) -> u8
     ensures { result ≤ 3 }
 {
     if error.kind() == ErrorKind::OutOfMemory {
         return Refusal::Memory.report(err);
     }
     if error.use_stderr() {
-        let _ = write!(err, "{error}");
+        let _ = match left_out_of(words) {
+            Some((name, instead)) => writeln!(err, "mcsim: create has no {name}: {instead}"),
+            None => write!(err, "{error}"),
+        };
         return 2;
     }
     match write!(out, "{error}") {
@@ -101,19 +115,32 @@ fn answer_of_clap<O: Write, E: Write>(error: &Error, out: &mut O, err: &mut E) -
     }
 }
 
+/// The first option of imgtool that is left out and the words of a `create` give, and what does what that does.
+fn left_out_of(words: &[String]) -> Option<(&'static str, &'static str)> {
+    let mut given = words
+        .iter()
+        .skip(1)
+        .skip_while(|word| word.starts_with('-'));
+    match given.next()?.as_str() {
+        "create" | "sign" => given.find_map(|word| left_out(word)),
+        _ => None,
+    }
+}
+
 /// Runs the command of that name.
-fn run_command<F: Files, R: Read, O: Write>(
-    files: &F,
+fn run_command<F: Files, R: Read, O: Write, E: Write>(
+    files: &WatchedFiles<'_, F>,
     alloc: Global,
     name: &str,
     arguments: &ArgMatches<'_>,
     input: &mut R,
     out: &mut O,
+    err: &mut E,
 ) -> Result<(), Refusal> {
     match name {
         "create" => commands::create::run(files, alloc, arguments, input, out),
         "verify" => commands::verify::run(files, arguments, input, out),
-        "dumpinfo" => commands::dumpinfo::run(files, alloc, arguments, input, out),
+        "dumpinfo" => commands::dumpinfo::run(files, alloc, arguments, input, out, err),
         "layout" => commands::layout::run(arguments, out),
         "life" => commands::life::run(files, alloc, arguments, input, out),
         "explain" => commands::explain::run(arguments, out),

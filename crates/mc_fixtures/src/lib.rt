@@ -110,7 +110,7 @@ static SCRIPT: &[u8] = b"boot\ndownload second\n";
 pub fn named(name: &str) -> Option<&'static [u8]> {
     match name {
         "first" => Some(&FIRST_IMAGE),
-        "second" => Some(&SECOND_IMAGE),
+        "second" | "a second" => Some(&SECOND_IMAGE),
         "payload" => Some(&PAYLOAD),
         "padded" => Some(&PADDED),
         "plain" => Some(&PLAIN_IMAGE),

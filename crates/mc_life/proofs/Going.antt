@@ -129,7 +129,7 @@ erased_content f h sector is =
 
 -- ---- writes of a request
 
-write_left : (g : Geometry) (s t : Content) (at : ℕ) (bytes : List ℕ) → apply g (Program Secondary at bytes) s ≡ Some t → t ≡ with_bytes s Secondary (put s.secondary at bytes)
+pub write_left : (g : Geometry) (s t : Content) (at : ℕ) (bytes : List ℕ) → apply g (Program Secondary at bytes) s ≡ Some t → t ≡ with_bytes s Secondary (put s.secondary at bytes)
 unfolding apply
 write_left g s t at bytes is = go (is_blank (between at (at + length bytes) s.secondary)) is
   where

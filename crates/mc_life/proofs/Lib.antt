@@ -7,3 +7,7 @@ mod Lines
 mod ReplayProof
 mod Worst
 mod Naming
+mod Saying
+mod Spelling
+mod Events
+mod Writing

@@ -1,7 +1,7 @@
 -- The files that a script names, line by line.
 use Rattle.std.specs.Prelude.{◌≡◌, ℕ, List, [], ◌∷◌, ◌++◌, Option, Some, None, option_and_then, refl}
 use Rattle.std.proofs.Common.{sym, ap, append_assoc, ◌∙◌}
-use Rattle.mc_life.specs.{declared.event.Event.{Event}, Script.{Names, ReadsEvent, before, file_named, lines_left, lines_of}}
+use Rattle.mc_life.specs.{declared.event.Event.{Event}, Script.{Names, ReadsEvent, before, file_named, sayings, sayings_left}}
 
 -- One line more.
 names_more : (lines : List (List ℕ)) (line : List ℕ) (names : List (List ℕ)) (e : Option Event) → ReadsEvent line e → Names lines names
@@ -22,13 +22,13 @@ names_more (l ∷ lines) line names e reads named = (
 -- What the lines so far name; the others are left.
 pub record AreNamed (script : List ℕ) (rest : Option (List ℕ)) (names : List (List ℕ)) : Type 0 where
   pub replayed : List (List ℕ)
-  pub are : lines_of script ≡ replayed ++ lines_left rest
+  pub are : sayings script ≡ replayed ++ sayings_left rest
   pub named : Names replayed names
 
-pub names_line : (script text : List ℕ) (names : List (List ℕ)) → AreNamed script (Some text) names → (line : List ℕ) (after : Option (List ℕ)) → lines_of text ≡ line ∷ lines_left after
+pub names_line : (script text : List ℕ) (names : List (List ℕ)) → AreNamed script (Some text) names → (line : List ℕ) (after : Option (List ℕ)) → sayings text ≡ line ∷ sayings_left after
     → (found : Option (List ℕ)) → (e : Option Event) × ReadsEvent line e × (found ≡ option_and_then file_named e) → AreNamed script after (names ++ before found [])
 names_line script text names at line after lines found (e, reads, is) = record {
   replayed = at.replayed ++ line ∷ [];
-  are = at.are ∙ ap (λ (z : List (List ℕ)). at.replayed ++ z) lines ∙ sym (append_assoc at.replayed (line ∷ []) (lines_left after));
+  are = at.are ∙ ap (λ (z : List (List ℕ)). at.replayed ++ z) lines ∙ sym (append_assoc at.replayed (line ∷ []) (sayings_left after));
   named = rw is (names_more at.replayed line names e reads at.named);
 }

@@ -1,21 +1,8 @@
--- How the line of an event is read.
-use Rattle.std.specs.Prelude.{◌≡◌, ℕ, ◌*◌, ◌<◌, ◌^◌, List, ◌++◌, length, take, drop, codes, decimal, Some, Result, Ok, Err, MatchResult, true, is_err}
+-- How the bytes of a torn confirmation are read.
+use Rattle.std.specs.Prelude.{◌≡◌, ℕ, ◌*◌, List, ◌++◌, length, take, drop, Result, Ok, Err, MatchResult, true, is_err}
 use Rattle.std.proofs.{Common.{arith, ap}, lemmas.List.{take_at}}
 use Rattle.hex.specs.{Hex.{IsBytes, decode_sized, encode_lower, lower_digits}, declared.error.FromHexError.{FromHexError}}
 use Rattle.hex.proofs.HexLemmas.{length-encode_with, decode_of-encode_lower}
-use Rattle.mc_output.specs.facts.Parting.{AreParts, no_part, one_part}
-use Rattle.mc_life.specs.Script.{SaysNone}
-
-some_is : {A : Type 0} (x y : A) → Some x ≡ Some y → x ≡ y
-some_is x y e = cc
-
--- A file of more than one word is not stored.
-pub no_store : (rest first after : List ℕ) → AreParts 32 rest first after → SaysNone (codes "store") (Some rest)
-no_store rest first after p e t = grind (arith, no_part, some_is)
-
--- Nor is one downloaded, unless a number is the second.
-pub no_download : (rest first after : List ℕ) → AreParts 32 rest first after → ((n : ℕ) → n < 2 ^ 32 → after ≡ decimal n → ⊥) → SaysNone (codes "download") (Some rest)
-no_download rest first after p no_number e t = grind (arith, no_part, some_is, one_part)
 
 -- ---- digits
 

@@ -1,36 +1,44 @@
 -- A script, replayed line by line.
-use Rattle.std.specs.Prelude.{◌≡◌, ℕ, ◌+◌, ◌≤◌, ◌==◌, Bool, true, false, if◌then◌else◌, List, [], ◌∷◌, ◌++◌, length, Option, Some, None, refl}
+use Rattle.std.specs.Prelude.{◌≡◌, ℕ, ◌+◌, ◌≤◌, ◌==◌, Bool, true, false, if◌then◌else◌, List, [], ◌∷◌, ◌++◌, length, map, IfErr, Option, Some, None, Result, Err, Ok, refl}
 use Rattle.std.specs.Io.KnownBytes.{Appends, Keeps}
 use Rattle.std.proofs.{Common.{arith, inr, sym, ap, subst, append_assoc, append-nil, ◌∙◌}, KnownBytes.{Appends-nil, Appends-trans}}
 use Rattle.std.proofs.{lemmas.Bool.Decides.{nat_tests}, lemmas.List.{length-append}}
 use Rattle.mc_boot.specs.{Outcome.{Report}, Life.{Event as Happening, IsDelivered, LifeLaw, Lives, LivesOn, Moment, resting}}
 use Rattle.mc_output.specs.{Text.{AppendsPrefix}, facts.Parting.{AreParts, Lacks}}
 use Rattle.mc_start.specs.Start.{Started}
-use Rattle.mc_life.specs.Script.{Named, Either, is_skipped, lines_left, lines_of, onto, size_left}
-use Rattle.mc_life.specs.Replay.{happenings, operations, BreaksOff, FailsLife, FailsLine, Happens, IsReplayed, RefusesLine, StopsAt, Replays, life_error, line_text}
-use Rattle.mc_life.specs.{Device.{Goes, IsNew, Standing, moment}, declared.life.LineError.{LineError}}
+use Rattle.mc_life.specs.Script.{Named, Either, States, file_of, is_skipped, lines_of, onto, said, sayings, sayings_left, size_left}
+use Rattle.mc_life.specs.Replay.{happenings, operations, BreaksOff, FailsLife, FailsLine, Happens, IsReplayed, RefusesEvent, RefusesLine, StopsAt, Replays, WithFile, life_error, line_text}
+use Rattle.mc_life.specs.{Device.{Goes, IsNew, RefusesDownload, RefusesStore, RefusesWrite, Standing, moment}, declared.event.Event.{Event}, declared.life.LineError.{LineError}}
 use Rattle.mc_flash.specs.{Flash.{Content}, Geometry.{Geometry, IsLayout}, declared.op.Op.{Op}}
 use Rattle.mc_trailer.specs.declared.tables.Rules.{Rules}
 use Rattle.mc_life.proofs.Going.{lives_both}
 use Rattle.mc_life.specs.declared.life.LineError.TheVariants as errors_of_line
 use Rattle.mc_life.specs.declared.error.EventError.{EventError}
 use Rattle.mc_life.specs.declared.error.EventError.TheVariants as errors
+use Rattle.mc_life.specs.declared.event.Event.TheVariants as events
 
 other_byte : (c : ℕ) → (c ≡ 10 → ⊥) → (c == 10) ≡ false
 other_byte c other = grind (arith, nat_tests)
 
 -- The first line, and the others.
-pub first_line : (line after : List ℕ) → Lacks 10 line → lines_of (line ++ 10 ∷ after) ≡ line ∷ lines_of after
+first_line : (line after : List ℕ) → Lacks 10 line → lines_of (line ++ 10 ∷ after) ≡ line ∷ lines_of after
 first_line [] after lacks = refl
 first_line (c ∷ line) after lacks =
     ap (λ b. if b then [] ∷ lines_of (line ++ 10 ∷ after) else onto c (lines_of (line ++ 10 ∷ after))) (other_byte c lacks.0) ∙ ap (onto c) (first_line line after lacks.1)
 
-pub first_of : (text line after : List ℕ) → AreParts 10 text line after → lines_of text ≡ line ∷ lines_of after
+first_of : (text line after : List ℕ) → AreParts 10 text line after → lines_of text ≡ line ∷ lines_of after
 first_of text line after p = ap lines_of p.parts ∙ first_line line after p.lacks
 
-pub last_line : (line : List ℕ) → Lacks 10 line → lines_of line ≡ line ∷ []
+last_line : (line : List ℕ) → Lacks 10 line → lines_of line ≡ line ∷ []
 last_line [] lacks = refl
 last_line (c ∷ line) lacks = ap (λ b. if b then [] ∷ lines_of line else onto c (lines_of line)) (other_byte c lacks.0) ∙ ap (onto c) (last_line line lacks.1)
+
+-- What the first line says, and the others.
+pub first_saying : (text line after : List ℕ) → AreParts 10 text line after → sayings text ≡ said line ∷ sayings after
+first_saying text line after p = ap (map said) (first_of text line after p)
+
+pub last_saying : (line : List ℕ) → Lacks 10 line → sayings line ≡ said line ∷ []
+last_saying line lacks = ap (map said) (last_line line lacks)
 
 -- ---- one line more
 
@@ -73,7 +81,7 @@ pub record IsAt (files : List Named) (start : Started) (script : List ℕ) (old 
   pub new : Standing
   pub is_new : IsNew start new
   pub before : List (List ℕ)
-  pub are : lines_of script ≡ before ++ lines_left rest
+  pub are : sayings script ≡ before ++ sayings_left rest
   pub count : ℕ
   pub text : List ℕ
   pub replayed : Replays files 1 new before count d text
@@ -101,12 +109,12 @@ module _ (files : List Named) (start : Started) (script : List ℕ) (old : Optio
   }
 
   module _ (now : Option (List ℕ)) (text : List ℕ) (number line : ℕ) (d : Standing) (at : IsAt files start script old now (Some text) number line d)
-      (words : List ℕ) (after : Option (List ℕ)) (lines : lines_of text ≡ words ∷ lines_left after) (less : size_left after ≤ length text) where
-    are_now : lines_of script ≡ at.before ++ (words ∷ lines_left after)
+      (words : List ℕ) (after : Option (List ℕ)) (lines : sayings text ≡ words ∷ sayings_left after) (less : size_left after ≤ length text) where
+    are_now : sayings script ≡ at.before ++ (words ∷ sayings_left after)
     are_now = at.are ∙ ap (λ (z : List (List ℕ)). at.before ++ z) lines
 
-    are_left : lines_of script ≡ (at.before ++ words ∷ []) ++ lines_left after
-    are_left = are_now ∙ sym (append_assoc at.before (words ∷ []) (lines_left after))
+    are_left : sayings script ≡ (at.before ++ words ∷ []) ++ sayings_left after
+    are_left = are_now ∙ sym (append_assoc at.before (words ∷ []) (sayings_left after))
 
     longer : line + 1 ≡ length (at.before ++ words ∷ []) + 1
     longer = let n = length-append at.before (words ∷ []) in omega (arith, n, at.line_is)
@@ -150,7 +158,7 @@ module _ (files : List Named) (start : Started) (script : List ℕ) (old : Optio
       left = d;
       text = at.text;
       here = words;
-      beyond = lines_left after;
+      beyond = sayings_left after;
       replayed = record { new = at.new; is_new = at.is_new; before = at.before; are = are_now; replayed = at.replayed };
       number_is = at.number_is;
       line_is = at.line_is;
@@ -168,7 +176,7 @@ module _ (files : List Named) (start : Started) (script : List ℕ) (old : Optio
 
 -- A line that is not replayed.
 pub fails : (files : List Named) (start : Started) (script : List ℕ) (old now later : Option (List ℕ)) (text : List ℕ) (number line : ℕ) (d : Standing)
-    → IsAt files start script old now (Some text) number line d → (words : List ℕ) (after : Option (List ℕ)) → lines_of text ≡ words ∷ lines_left after → size_left after ≤ length text
+    → IsAt files start script old now (Some text) number line d → (words : List ℕ) (after : Option (List ℕ)) → sayings text ≡ words ∷ sayings_left after → size_left after ≤ length text
     → is_skipped words ≡ false → (e : LineError) → FailsLine files number words d now later e → FailsLife files start script old later (life_error e number line)
 fails files start script old now later text number line d at words after lines less skipped (errors_of_line.Event errors.Memory) failed =
     inr (number, line, stops files start script old now text number line d at words after lines less skipped errors.Memory later failed.0 failed.1)
@@ -222,3 +230,30 @@ lives_on files start script old new e replayed law layout delivered =
     (subst (λ (r : Rules). Lives r d.seen.geometry (moment d start.content) life.events (moment e l.0)) is.rules l.1)) in
     let on = law start.rules start.geometry start.content false life.events (moment e l.0) layout delivered from_start in
     (l.0, on.0, on.1)
+
+-- ---- a line whose event can't happen
+
+file_never : (o : Option (List ℕ)) (P : List ℕ → EventError → Type 0) → ((bytes : List ℕ) → P bytes errors.Syntax → ⊥) → WithFile o P errors.Syntax → ⊥
+file_never None P never refused = refused
+file_never (Some bytes) P never refused = never bytes refused
+
+-- No event is refused as none.
+never_syntax : (files : List Named) (d : Standing) (e : Event) → RefusesEvent files d e errors.Syntax → ⊥
+never_syntax files d (events.Download file count) refused = file_never (file_of files file.now) (λ bytes. RefusesDownload d bytes count) (λ bytes x. x) refused
+never_syntax files d (events.Request request) refused = refused
+never_syntax files d (events.Store file) refused = file_never (file_of files file.now) (RefusesStore d) (λ bytes x. x) refused
+never_syntax files d (events.Write file from count) refused = file_never (file_of files file.now) (λ bytes. RefusesWrite d bytes from count) (λ bytes x. x) refused
+never_syntax files d (events.Erase sector) refused = refused
+never_syntax files d events.Confirm refused = refused
+never_syntax files d (events.Mark bytes) refused = refused
+never_syntax files d (events.Boot cuts) refused = refused
+never_syntax files d (events.Cut count) refused = refused
+
+event_refused : (files : List Named) (line : List ℕ) (d : Standing) (e : Event) → States line e → (why : EventError) → RefusesEvent files d e why → RefusesLine files line d why
+event_refused files line d e states errors.Syntax refused = absurd (never_syntax files d e refused)
+event_refused files line d e states why refused = (e, states, refused)
+
+pub line_refused : {A : Type 0} (files : List Named) (line : List ℕ) (d : Standing) (e : Event) (r : Result A EventError) → States line e → IfErr r (RefusesEvent files d e)
+    → IfErr r (RefusesLine files line d)
+line_refused files line d e (Ok v) states refused = tt
+line_refused files line d e (Err why) states refused = event_refused files line d e states why refused

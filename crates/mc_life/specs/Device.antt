@@ -1,8 +1,9 @@
 -- A device as callers see it, what can happen to it, what is refused of that, and how often its sectors were erased (docs/LIFE.md).
-use Rattle.std.specs.Prelude.{Bool, List, None, Option, Some, [], codes, decimal, false, get_or, length, map, min, replicate, slice_get, suc, take, true, zero, ℕ, ⊤, ◌++◌, ◌+◌, ◌-◌, ◌<◌, ◌^◌, ◌∷◌, ◌≡◌, ◌≢◌, ◌≤◌, ◌⊎◌}
+use Rattle.std.specs.{Int.{next_multiple_of}, List.{between}}
+use Rattle.std.specs.Prelude.{Bool, IfSome, List, None, Option, Some, [], codes, decimal, drop, false, get_or, length, map, min, replicate, slice_get, suc, take, true, zero, ℕ, ⊤, ◌%◌, ◌++◌, ◌+◌, ◌-◌, ◌<◌, ◌^◌, ◌∷◌, ◌≡◌, ◌≢◌, ◌≤◌, ◌⊎◌}
 use Rattle.mc_boot.specs.{Life.{Event, Lives, Moment, all_erases, boot, cut}, Outcome.{Report, after, cut_at, ops_of, outcome_of}}
 use Rattle.mc_boot.specs.Plan.{PowerOn, again, image_ok_write}
-use Rattle.mc_flash.specs.{Flash.{Content, apply, put, sectors_of, size_of, with_bytes}, Geometry.{Geometry}, Usage.{Seen}}
+use Rattle.mc_flash.specs.{Flash.{Content, apply, is_blank, put, sectors_of, size_of, with_bytes}, Geometry.{Geometry}, Usage.{Seen}}
 use Rattle.mc_flash.specs.{declared.flash.FlashError.{FlashError}, declared.op.Op.{Op}, declared.op.Op.TheVariants.{Erase, Program}, declared.op.Slot.{Slot}}
 use Rattle.mc_flash.specs.declared.op.Slot.TheVariants.{Primary, Secondary}
 use Rattle.mc_life.specs.{declared.error.EventError.{EventError}, declared.request.Request.{Request}}
@@ -149,6 +150,22 @@ abbrev pub loaded : List ℕ → Option ℕ → List ℕ
 loaded file None = file
 loaded file (Some n) = take n file
 
+-- Bytes with 0xff after them, up to a whole number of units.
+abbrev pub padded : ℕ → List ℕ → List ℕ
+padded unit bytes = bytes ++ replicate (next_multiple_of (length bytes) unit - length bytes) 255
+
+-- What is written of a part of a file: so many bytes from an offset on, padded to whole units.
+abbrev pub part_of : Geometry → List ℕ → ℕ → ℕ → List ℕ
+part_of g file from count = padded g.unit (take count (drop from file))
+
+-- Whether each byte of the secondary is 0xff where these bytes are written.
+abbrev pub is_free : Content → ℕ → List ℕ → Bool
+is_free s at bytes = is_blank (between at (at + length bytes) s.secondary)
+
+-- The secondary once that part stands at the same offset there.
+abbrev pub with_part : Geometry → List ℕ → ℕ → ℕ → List ℕ → List ℕ
+with_part g file from count bytes = put bytes from (part_of g file from count)
+
 -- The secondary once it asks for a test.
 abbrev pub with_magic : Geometry → List ℕ → List ℕ
 with_magic g bytes = put bytes (place g Secondary field.Magic) magic_bytes
@@ -207,12 +224,53 @@ RefusesStore d bytes errors.NotThatLong = (d.runs ≡ true) × (length bytes ≢
 RefusesStore d bytes errors.Memory = ⊤
 RefusesStore d bytes _ = ⊥
 
--- No image runs; or there is more than the secondary holds.
+-- The file has as many bytes as are downloaded, and the secondary holds them.
+pub record FitsDownload (d : Standing) (file : List ℕ) (count : Option ℕ) : Type 0 where
+  pub in_file : IfSome count (λ n. n ≤ length file)
+  pub in_slot : length (loaded file count) ≤ size_of d.seen.geometry Secondary
+
+-- No image runs; or there are not that many bytes, or more than the secondary holds.
 abbrev pub RefusesDownload : Standing → List ℕ → Option ℕ → EventError → Type 0
 RefusesDownload d file count errors.NotRunning = d.runs ≡ false
-RefusesDownload d file count errors.NotThatLong = (d.runs ≡ true) × (size_of d.seen.geometry Secondary < length (loaded file count))
+RefusesDownload d file count errors.NotThatLong = (d.runs ≡ true) × (FitsDownload d file count → ⊥)
 RefusesDownload d file count errors.Memory = ⊤
 RefusesDownload d file count _ = ⊥
+
+-- A download that may happen.
+pub record AllowsDownload (d : Standing) (file : List ℕ) (count : Option ℕ) : Type 0 where
+  pub runs : d.runs ≡ true
+  pub fits : FitsDownload d file count
+
+-- The file has those bytes, and the secondary holds them at the same offset.
+pub record FitsPart (d : Standing) (file : List ℕ) (from count : ℕ) : Type 0 where
+  pub in_file : from + count ≤ length file
+  pub in_slot : from + count ≤ size_of d.seen.geometry Secondary
+
+-- It begins with a unit.
+abbrev pub IsAligned : Standing → ℕ → Type 0
+IsAligned d from = from % d.seen.geometry.unit ≡ 0
+
+-- Nothing is written yet where it writes.
+abbrev pub IsFree : Standing → List ℕ → ℕ → ℕ → Type 0
+IsFree d file from count = is_free d.seen.content from (part_of d.seen.geometry file from count) ≡ true
+
+-- No image runs; or else there are not that many bytes, in the file or in the secondary; or else its first byte begins no unit; or else
+-- something is written already where it writes.
+abbrev pub RefusesWrite : Standing → List ℕ → ℕ → ℕ → EventError → Type 0
+RefusesWrite d file from count errors.NotRunning = d.runs ≡ false
+RefusesWrite d file from count errors.NotThatLong = (d.runs ≡ true) × (FitsPart d file from count → ⊥)
+RefusesWrite d file from count errors.NotAligned = (d.runs ≡ true) × FitsPart d file from count × (IsAligned d from → ⊥)
+RefusesWrite d file from count errors.NotErased =
+    (d.runs ≡ true) × FitsPart d file from count × IsAligned d from × (IsFree d file from count → ⊥)
+RefusesWrite d file from count errors.Memory = ⊤
+RefusesWrite d file from count _ = ⊥
+
+-- A write that may happen.
+pub record AllowsWrite (d : Standing) (file : List ℕ) (from count : ℕ) : Type 0 where
+  pub runs : d.runs ≡ true
+  pub fits : FitsPart d file from count
+  pub aligned : IsAligned d from
+  pub free : IsFree d file from count
 
 -- A write of a request is refused: that of the magic, or, for good, that of image-ok after it.
 abbrev pub AskFails : Geometry → Content → Request → FlashError → Type 0

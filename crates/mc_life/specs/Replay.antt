@@ -5,8 +5,8 @@ use Rattle.mc_boot.specs.{Life.{DeviceState, Event as Happening, confirm, cut, d
 use Rattle.mc_boot.specs.{Plan.{PowerOn, identity_of, powered}, Restart.{filled}}
 use Rattle.mc_flash.specs.{Flash.{erased}, declared.op.Op.{Op}, declared.op.Op.TheVariants.{Erase}, declared.op.Slot.TheVariants.{Secondary}}
 use Rattle.mc_image.specs.{Valid.{Identity}, VersionText.{version_line}}
-use Rattle.mc_life.specs.Device.{EndsAs, Goes, IsNew, RefusesConfirm, RefusesCuts, RefusesDownload, RefusesErase, RefusesMark, RefusesRequest, RefusesStore, Standing, asked, boot_ops, boots, cut_ops, loaded, wipes}
-use Rattle.mc_life.specs.{Script.{Either, IsEvent, Named, event_text, file_of, held, is_skipped, lines_of}, declared.error.EventError.{EventError}}
+use Rattle.mc_life.specs.Device.{AllowsDownload, AllowsWrite, EndsAs, Goes, IsNew, RefusesConfirm, RefusesCuts, RefusesDownload, RefusesErase, RefusesMark, RefusesRequest, RefusesStore, RefusesWrite, Standing, asked, boot_ops, boots, cut_ops, loaded, wipes, with_part}
+use Rattle.mc_life.specs.{Script.{Either, Named, States, file_of, held, is_skipped, sayings}, declared.error.EventError.{EventError}}
 use Rattle.mc_life.specs.{declared.event.Event.{Event}, declared.life.LifeError.{LifeError}, declared.life.LineError.{LineError}, declared.state.State.{State}}
 use Rattle.mc_output.specs.Text.{AppendsPrefix}
 use Rattle.mc_start.specs.Start.{Started}
@@ -52,6 +52,7 @@ abbrev pub happenings : List Named → Standing → Event → List Happening
 happenings files d (events.Download file count) = store (filled d.seen.geometry Secondary (loaded (held (file_of files file.now)) count)) ∷ []
 happenings files d (events.Request request) = store (asked d.seen.geometry request d.seen.content.secondary) ∷ []
 happenings files d (events.Store file) = store (held (file_of files file.now)) ∷ []
+happenings files d (events.Write file from count) = store (with_part d.seen.geometry (held (file_of files file.now)) from count d.seen.content.secondary) ∷ []
 happenings files d (events.Erase sector) = store (erased d.seen.geometry.sector sector d.seen.content.secondary) ∷ []
 happenings files d events.Confirm = confirm ∷ []
 happenings files d (events.Mark bytes) = mark bytes ∷ []
@@ -63,6 +64,7 @@ abbrev pub operations : Standing → Event → List Op
 operations d (events.Download file count) = wipes d.seen.geometry.secondary
 operations d (events.Request request) = []
 operations d (events.Store file) = wipes d.seen.geometry.secondary
+operations d (events.Write file from count) = []
 operations d (events.Erase sector) = Erase Secondary sector ∷ []
 operations d events.Confirm = []
 operations d (events.Mark bytes) = []
@@ -78,6 +80,7 @@ abbrev pub Ends : Standing → Event → Option Report → Type 0
 Ends d (events.Download file count) o = o ≡ None
 Ends d (events.Request request) o = o ≡ None
 Ends d (events.Store file) o = o ≡ None
+Ends d (events.Write file from count) o = o ≡ None
 Ends d (events.Erase sector) o = o ≡ None
 Ends d events.Confirm o = o ≡ None
 Ends d (events.Mark bytes) o = o ≡ None
@@ -95,19 +98,26 @@ abbrev pub RefusesEvent : List Named → Standing → Event → EventError → T
 RefusesEvent files d (events.Download file count) why = WithFile (file_of files file.now) (λ bytes. RefusesDownload d bytes count) why
 RefusesEvent files d (events.Request request) why = RefusesRequest d request why
 RefusesEvent files d (events.Store file) why = WithFile (file_of files file.now) (RefusesStore d) why
+RefusesEvent files d (events.Write file from count) why = WithFile (file_of files file.now) (λ bytes. RefusesWrite d bytes from count) why
 RefusesEvent files d (events.Erase sector) why = RefusesErase d sector why
 RefusesEvent files d events.Confirm why = RefusesConfirm d why
 RefusesEvent files d (events.Mark bytes) why = RefusesMark d bytes why
 RefusesEvent files d (events.Boot cuts) why = RefusesCuts (powered d.rules d.seen) cuts why
 RefusesEvent files d (events.Cut count) why = RefusesCuts (powered d.rules d.seen) (count ∷ []) why
 
--- A script replayed line by line.
+-- What allows it to happen, where it is a download or a write.
+abbrev pub AllowsEvent : List Named → Standing → Event → Type 0
+AllowsEvent files d (events.Download file count) = AllowsDownload d (held (file_of files file.now)) count
+AllowsEvent files d (events.Write file from count) = AllowsWrite d (held (file_of files file.now)) from count
+AllowsEvent files d _ = ⊤
 
--- The line states an event, which leads from d to e, and a boot ends so.
+-- A script replayed line by line. Of each line only what it says counts, and that is called the line here.
+
+-- The line states an event, which may happen and leads from d to e, and a boot ends so.
 pub record Happens (files : List Named) (line : List ℕ) (d e : Standing) (outcome : Option Report) : Type 0 where
   pub event : Event
-  pub is_event : IsEvent event
-  pub line_is : line ≡ event_text event
+  pub states : States line event
+  pub allowed : AllowsEvent files d event
   pub goes : Goes d (happenings files d event) (operations d event) e
   pub ends : Ends d event outcome
 
@@ -125,15 +135,15 @@ Replays files number d (line ∷ more) count e text =
 
 -- A line is refused: it states no event, or one that can't happen.
 abbrev pub RefusesLine : List Named → List ℕ → Standing → EventError → Type 0
-RefusesLine files line d errors.Syntax = (e : Event) → IsEvent e → line ≡ event_text e → ⊥
-RefusesLine files line d why = (e : Event) × IsEvent e × (line ≡ event_text e) × RefusesEvent files d e why
+RefusesLine files line d errors.Syntax = (e : Event) → States line e → ⊥
+RefusesLine files line d why = (e : Event) × States line e × RefusesEvent files d e why
 
 -- A prefix of the lines was replayed, and led to e: these lines are left.
 pub record ReplayedUpTo (files : List Named) (start : Started) (script : List ℕ) (rest : List (List ℕ)) (count : ℕ) (e : Standing) (text : List ℕ) : Type 0 where
   pub new : Standing
   pub is_new : IsNew start new
   pub before : List (List ℕ)
-  pub are : lines_of script ≡ before ++ rest
+  pub are : sayings script ≡ before ++ rest
   pub replayed : Replays files 1 new before count e text
 
 -- All lines were replayed, and their text is out.

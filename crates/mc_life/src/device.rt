@@ -1,5 +1,5 @@
 //! A device, and what can happen to it.
-ghost use Rattle.std.specs.Prelude.{◌≡◌, ◌≤◌, [], ◌∷◌, length, IfErr, IfOk, OnOk};
+ghost use Rattle.std.specs.Prelude.{◌≡◌, ◌+◌, ◌≤◌, [], ◌∷◌, length, drop, take, IfErr, IfOk, IfSome, MatchOption, OnOk};
 ghost use Rattle.mc_boot.specs.Life.{confirm, cut, mark, store};
 ghost use Rattle.mc_boot.specs.Outcome.{shown};
 ghost use Rattle.mc_boot.specs.Plan.{powered};
@@ -9,7 +9,7 @@ ghost use Rattle.mc_trailer.specs.Trailer.{trailer_of};
 ghost use Rattle.mc_trailer.specs.Tables.{is_set};
 ghost use Rattle.mc_flash.specs.declared.op.Op.TheVariants.{Erase};
 ghost use Rattle.mc_flash.specs.declared.op.Slot.TheVariants.{Primary, Secondary};
-ghost use Rattle.mc_life.specs.Device.{EndsAs, boot_ops, cut_ops, RefusesConfirm, RefusesCuts, RefusesDownload, RefusesErase, RefusesMark, RefusesRequest, RefusesStore, Goes, IsNew, asked, boots, loaded, wipes};
+ghost use Rattle.mc_life.specs.Device.{EndsAs, boot_ops, cut_ops, RefusesConfirm, RefusesCuts, RefusesDownload, RefusesErase, RefusesMark, RefusesRequest, RefusesStore, RefusesWrite, AllowsDownload, AllowsWrite, Goes, IsNew, asked, boots, loaded, wipes, with_part};
 
 use crate::error::EventError;
 use crate::request::Request;
@@ -25,14 +25,23 @@ use std::marker::Model;
 /// For so many boots a flash that counts has room.
 const MOST_BOOTS: u32 = 32;
 
-// What is downloaded of a file.
-fn loaded(file: &[u8], bytes: Option<u32>) -> &[u8]
-    ensures { result.now ≡ loaded file.now bytes }
+// What is downloaded of a file, where it has as many bytes.
+fn loaded(file: &[u8], bytes: Option<u32>) -> Option<&[u8]>
+    ensures { MatchOption result (IfSome bytes (λ n. n ≤ length file.now) → ⊥)
+        (λ part. IfSome bytes (λ n. n ≤ length file.now) × (part.now ≡ loaded file.now bytes)) }
 {
     match bytes {
-        Some(count) => &file[..file.len().min(count as usize)],
-        None => file,
+        Some(count) => file.get(..count as usize),
+        None => Some(file),
     }
+}
+
+// So many bytes of a file from an offset on, where it has them.
+fn part_of(file: &[u8], from: u32, count: u32) -> Option<&[u8]>
+    ensures { MatchOption result (from + count ≤ length file.now → ⊥)
+        (λ part. (from + count ≤ length file.now) × (part.now ≡ take count (drop from file.now))) }
+{
+    file.get(from as usize..)?.get(..count as usize)
 }
 
 // Whether a swap is finished.
@@ -225,7 +234,7 @@ impl<F: Flash> Device<F> {
     ///
     /// # Errors
     ///
-    /// `NotRunning`; `NotThatLong` where the secondary does not hold what is written; `Memory`.
+    /// `NotRunning`; `NotThatLong` where the file has not as many bytes, or the secondary does not hold them; `Memory`.
     pub fn download(
         &mut self,
         alloc: Global,
@@ -234,17 +243,57 @@ impl<F: Flash> Device<F> {
     ) -> Result<(), EventError>
         ensures goes { let g = self.old.seen.geometry in OnOk result (Goes self.old
             (store (filled g Secondary (loaded file.now bytes)) ∷ []) (wipes g.secondary) self.new) }
+        ensures allowed { OnOk result (AllowsDownload self.old file.now bytes) }
         ensures refused { IfErr result (RefusesDownload self.old file.now bytes) }
     {
         if !self.runs {
             return Err(EventError::NotRunning);
         }
-        let part = loaded(file, bytes);
+        let Some(part) = loaded(file, bytes) else {
+            return Err(EventError::NotThatLong);
+        };
         if part.len() > self.flash.layout().size(Slot::Secondary) as usize {
             return Err(EventError::NotThatLong);
         }
         let slot = work::filled(alloc, self.flash.layout(), part)?;
         work::rewrite(&mut self.flash, &mut self.wear, &slot)?;
+        work::secondary_stands(&self.flash);
+        Ok(())
+    }
+
+    /// The running image writes so many bytes of a file, from an offset on, at the same offset of the secondary, and erases nothing.
+    /// Where the last unit is not whole, it is padded with 0xff.
+    ///
+    /// # Errors
+    ///
+    /// `NotRunning`; `NotThatLong` where the file has not as many bytes, or the secondary does not hold them; `NotAligned` where the
+    /// first byte begins no unit; `NotErased` where something is written there; `Memory`.
+    pub fn write(
+        &mut self,
+        alloc: Global,
+        file: &[u8],
+        from: u32,
+        count: u32,
+    ) -> Result<(), EventError>
+        ensures goes { let s = self.old.seen in OnOk result (Goes self.old
+            (store (with_part s.geometry file.now from count s.content.secondary) ∷ []) [] self.new) }
+        ensures allowed { OnOk result (AllowsWrite self.old file.now from count) }
+        ensures refused { IfErr result (RefusesWrite self.old file.now from count) }
+    {
+        if !self.runs {
+            return Err(EventError::NotRunning);
+        }
+        let Some(part) = part_of(file, from, count) else {
+            return Err(EventError::NotThatLong);
+        };
+        if from as usize + part.len() > self.flash.layout().size(Slot::Secondary) as usize {
+            return Err(EventError::NotThatLong);
+        }
+        if from % self.flash.layout().unit() != 0 {
+            return Err(EventError::NotAligned);
+        }
+        self.wear.idles();
+        work::write(alloc, &mut self.flash, from, part)?;
         work::secondary_stands(&self.flash);
         Ok(())
     }

@@ -24,7 +24,8 @@ pub enum EventError {
     /// It is one of the running image, and none runs.
     #[error("E79 NotRunning")]
     NotRunning,
-    /// What is downloaded is longer than the secondary; or what is stored is not as long.
+    /// The file has not as many bytes as are downloaded or written, or the secondary does not hold them; or what is stored is not
+    /// as long as the secondary.
     #[error("E80 NotThatLong")]
     NotThatLong,
     /// The secondary has no such sector.
@@ -33,6 +34,9 @@ pub enum EventError {
     /// No swap is finished; or what is to stand at image-ok is longer than its room.
     #[error("E82 CannotMark")]
     CannotMark,
+    /// What is written does not begin with a unit.
+    #[error("E90 NotAligned")]
+    NotAligned,
     /// An allocation failed, or the room of a flash that counts is full.
     #[error("E52 Memory")]
     Memory,

@@ -1,9 +1,10 @@
 //! What can happen to a device, as a line of a script states it.
-ghost use Rattle.std.specs.Prelude.{◌≡◌, ℕ, ◌<◌, ◌≤◌, ◌^◌, List, length, codes, decimal, MatchOption, Some, None, option_map, true, false};
+ghost use Rattle.std.specs.Prelude.{◌≡◌, ℕ, ◌≤◌, List, length, codes, MatchOption, Some, None, option_map, true, false};
 ghost use Rattle.hex.specs.Hex.{IsBytes, encode_lower};
 ghost use Rattle.mc_life.specs.Script.{ReadsEvent, Says, SaysNone, file_named};
 
 use crate::request::Request;
+use crate::words::{both_numbers, name_in, number_of};
 use mc_flash::Bytes16;
 use mc_output::Line;
 use mc_start::Schedule;
@@ -18,6 +19,8 @@ pub enum Event<'a> {
     Request(Request),
     /// The bytes of the secondary are those of a file.
     Store(&'a str),
+    /// It writes bytes of a file from an offset on, so many, at the same offset of the secondary, and erases nothing.
+    Write(&'a str, u32, u32),
     /// It erases a sector of the secondary.
     Erase(u32),
     /// It confirms itself.
@@ -28,17 +31,6 @@ pub enum Event<'a> {
     Boot(Schedule),
     /// The power comes on, and is lost after so many operations.
     Cut(u32),
-}
-
-// The number that a text writes, without leading zeros.
-fn number_of(text: &str) -> Option<u32>
-    ensures { MatchOption result ((n : ℕ) → n < 2 ^ 32 → text.now ≡ decimal n → ⊥)
-        (λ n. text.now ≡ decimal n) }
-{
-    match text.parse::<u32>() {
-        Ok(number) if itoa::Buffer::new().format(number) == text => Some(number),
-        _ => None,
-    }
 }
 
 // Reads as many bytes as there is room for from lower-case hexadecimal digits. False for every other text.
@@ -87,8 +79,11 @@ fn download(rest: &str) -> Option<Event<'_>>
     ensures { MatchOption result (SaysNone (codes "download") (Some rest.now))
         (Says (codes "download") (Some rest.now)) }
 {
-    let Some((file, count)) = rest.split_once(' ') else {
-        return Some(Event::Download(rest, None));
+    let Some((file, more)) = name_in(rest) else {
+        return None;
+    };
+    let Some(count) = more else {
+        return Some(Event::Download(file, None));
     };
     match number_of(count) {
         Some(count) => Some(Event::Download(file, Some(count))),
@@ -113,10 +108,30 @@ fn store(rest: &str) -> Option<Event<'_>>
     ensures { MatchOption result (SaysNone (codes "store") (Some rest.now))
         (Says (codes "store") (Some rest.now)) }
 {
-    let Some((_file, _more)) = rest.split_once(' ') else {
-        return Some(Event::Store(rest));
+    let Some((file, more)) = name_in(rest) else {
+        return None;
     };
-    None
+    match more {
+        None => Some(Event::Store(file)),
+        Some(_) => None,
+    }
+}
+
+// A part of a file.
+fn write(rest: &str) -> Option<Event<'_>>
+    ensures { MatchOption result (SaysNone (codes "write") (Some rest.now))
+        (Says (codes "write") (Some rest.now)) }
+{
+    let Some((file, more)) = name_in(rest) else {
+        return None;
+    };
+    let Some(numbers) = more else {
+        return None;
+    };
+    match both_numbers(numbers) {
+        Some((from, count)) => Some(Event::Write(file, from, count)),
+        None => None,
+    }
 }
 
 // An erase of a sector.
@@ -183,6 +198,7 @@ fn of_words<'a>(name: &'a str, rest: &'a str) -> Option<Event<'a>>
         "download" => download(rest),
         "request" => request(rest),
         "store" => store(rest),
+        "write" => write(rest),
         "erase" => erase(rest),
         "mark" => mark(rest),
         "boot" => boot(rest),
@@ -192,7 +208,7 @@ fn of_words<'a>(name: &'a str, rest: &'a str) -> Option<Event<'a>>
 }
 
 impl<'a> Event<'a> {
-    /// The event that a line states, if it states one.
+    /// The event that a text states, if it states one. The text is what a line of a script says.
     pub fn read(line: &'a str) -> Option<Event<'a>>
         ensures { ReadsEvent line.now result }
     {
@@ -207,7 +223,7 @@ impl<'a> Event<'a> {
         ensures { option_map (λ t. t.now) result ≡ file_named self.now }
     {
         match self {
-            Event::Download(file, _) | Event::Store(file) => Some(file),
+            Event::Download(file, _) | Event::Store(file) | Event::Write(file, _, _) => Some(file),
             _ => None,
         }
     }

@@ -7,11 +7,13 @@ mod error;
 mod event;
 mod files;
 mod life;
+mod line;
 mod request;
 mod script;
 mod state;
 mod wear;
 mod wear_text;
+mod words;
 mod work;
 
 pub use device::Device;

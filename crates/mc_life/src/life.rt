@@ -1,9 +1,9 @@
 //! A life, replayed event by event.
-ghost use Rattle.std.specs.Prelude.{◌≡◌, ◌<◌, ◌≤◌, ◌^◌, Option, length, option_map, IfErr, IfOk, MatchResult, None, Some, OnOk};
+ghost use Rattle.std.specs.Prelude.{◌≡◌, ◌<◌, Option, option_map, IfErr, IfOk, MatchResult, None, Some, OnOk};
 ghost use Rattle.mc_boot.specs.Life.{IsDelivered, LivesOn};
 ghost use Rattle.mc_boot.specs.Outcome.{shown, Report};
 ghost use Rattle.mc_flash.specs.Flash.{Content};
-ghost use Rattle.mc_life.specs.Replay.{Ends, RefusesEvent, happenings, operations, FailsLife, FailsLine, Happens, IsReplayed, RefusesLine, life_error, line_text};
+ghost use Rattle.mc_life.specs.Replay.{AllowsEvent, Ends, RefusesEvent, happenings, operations, FailsLife, FailsLine, Happens, IsReplayed, RefusesLine, life_error, line_text};
 ghost use Rattle.mc_life.specs.Script.{file_of, is_skipped};
 ghost use Rattle.std.specs.Io.KnownBytes.{Appends};
 ghost use Rattle.mc_life.specs.Device.{Goes, moment};
@@ -40,14 +40,11 @@ pub enum LifeError {
 /// The most bytes of an image.
 const MOST_IMAGE: usize = 1 << 24;
 
-// Whether a line states nothing: it is empty, or begins with `#`.
+// Whether a line states nothing, by what it says.
 fn is_skipped(line: &str) -> bool
     ensures { result ≡ is_skipped line.now }
 {
-    match line.as_bytes().first() {
-        Some(first) => *first == b'#',
-        None => true,
-    }
+    line.is_empty()
 }
 
 // What a file holds.
@@ -71,6 +68,7 @@ fn happen<F: Flash>(
 ) -> Result<Option<Outcome>, EventError>
     ensures goes { OnOk result (Goes device.old (happenings files.now device.old event.now)
         (operations device.old event.now) device.new) }
+    ensures allowed { OnOk result (AllowsEvent files.now device.old event.now) }
     ensures ends { IfOk result (λ o. Ends device.old event.now (option_map shown o)) }
     ensures refused { IfErr result (RefusesEvent files.now device.old event.now) }
 {
@@ -78,6 +76,9 @@ fn happen<F: Flash>(
         Event::Download(file, bytes) => device.download(alloc, held(files, file)?, *bytes)?,
         Event::Request(request) => device.request(*request)?,
         Event::Store(file) => device.store(held(files, file)?)?,
+        Event::Write(file, from, count) => {
+            device.write(alloc, held(files, file)?, *from, *count)?;
+        }
         Event::Erase(sector) => device.erase(*sector)?,
         Event::Confirm => device.confirm()?,
         Event::Mark(bytes) => device.mark(alloc, bytes.bytes())?,
@@ -114,7 +115,7 @@ impl From<WriteFailed> for LineError {
     }
 }
 
-// What a line states happens to a device.
+// What a line states, by what it says, happens to a device.
 fn happen_line<F: Flash>(
     device: &mut Device<F>,
     alloc: Global,
@@ -188,9 +189,9 @@ fn failure(error: LineError, number: u32, line: u32) -> LifeError
     }
 }
 
-/// Replays what happens to a device from a start on, by a script: a line for each event, with its number, its words, for a boot
-/// its result, its type and how many operations happened, then the primary's image, whether that is on trial, the secondary's
-/// image, and the type of the next boot. The device at the end. At the start the power is off.
+/// Replays what happens to a device from a start on, by a script: a line for each event, with its number, its words as the script
+/// has them, for a boot its result, its type and how many operations happened, then the primary's image, whether that is on trial,
+/// the secondary's image, and the type of the next boot. The device at the end. At the start the power is off.
 ///
 /// The images that the start and the first six files begin with are hashed once.
 ///

@@ -1,11 +1,12 @@
 //! A script, read whole, and the files that it names.
 ghost use Rattle.std.specs.Prelude.{◌≡◌, ℕ, ◌+◌, ◌≤◌, ◌^◌, List, ◌∷◌, Option, length, map, option_and_then, option_map, IfOk, OnOk};
 ghost use Rattle.std.specs.Io.KnownBytes.{Consumes, IsAtEnd};
-ghost use Rattle.mc_life.specs.Script.{Names, Reads, ReadsEvent, file_named, lines_left, lines_of, size_left};
+ghost use Rattle.mc_life.specs.Script.{Names, Reads, ReadsEvent, file_named, sayings, sayings_left, size_left};
 ghost use Rattle.mc_life.specs.declared.event.Event.{Event};
 
 use crate::error::ScriptError;
 use crate::event::Event;
+use crate::line::said;
 use mc_imgtool::read_bounded;
 use std::alloc::{AllocError, Global};
 use std::io::Read;
@@ -30,19 +31,19 @@ impl Model for Script {
     ghost invariant = { λ s. length (string_bytes s.text) ≤ 2 ^ 24 };
 }
 
-/// The first line of a text, and what is left after it, if something is.
+/// What the first line of a text says, and what is left after the line, if something is.
 pub(crate) fn next_line(text: &str) -> (&str, Option<&str>)
-    ensures lines { lines_of text.now ≡ result.0.now
-        ∷ lines_left (option_map (λ t. t.now) result.1) }
+    ensures lines { sayings text.now ≡ result.0.now
+        ∷ sayings_left (option_map (λ t. t.now) result.1) }
     ensures less { size_left (option_map (λ t. t.now) result.1) ≤ length text.now }
 {
     match text.split_once('\n') {
-        Some((line, after)) => (line, Some(after)),
-        None => (text, None),
+        Some((line, after)) => (said(line), Some(after)),
+        None => (said(text), None),
     }
 }
 
-// The file that a line names, if it states an event that names one.
+// The file that a line names, if what it says states an event that names one.
 fn file_in(line: &str) -> Option<&str>
     ensures { (e : Option Event) × ReadsEvent line.now e
         × (option_map (λ t. t.now) result ≡ option_and_then file_named e) }
@@ -86,7 +87,7 @@ impl Script {
     ///
     /// Where an allocation failed.
     pub fn names(&self, alloc: Global) -> Result<Vec<&str>, AllocError>
-        ensures { IfOk result (λ names. Names (lines_of self.now) (map (λ t. t.now) names.items)) }
+        ensures { IfOk result (λ names. Names (sayings self.now) (map (λ t. t.now) names.items)) }
     {
         let mut names = Vec::new(alloc);
         let mut rest = Some(self.text());

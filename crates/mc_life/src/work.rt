@@ -1,11 +1,11 @@
 //! What a running image does to the secondary, operation by operation, and what that erases.
-ghost use Rattle.std.specs.Prelude.{◌≡◌, ◌<◌, [], ◌∷◌, ◌≤◌, ◌%◌, length, IfErr, IfOk, OnOk, true};
+ghost use Rattle.std.specs.Prelude.{◌≡◌, ◌<◌, [], ◌∷◌, ◌≤◌, ◌+◌, ◌%◌, length, IfErr, IfOk, OnOk, true, false};
 ghost use Rattle.mc_boot.specs.Life.{AreSecondary};
 ghost use Rattle.mc_flash.specs.Flash.{put, sectors_of, size_of, with_bytes};
 ghost use Rattle.mc_flash.specs.Usage.{Does, limits_for};
 ghost use Rattle.mc_flash.specs.declared.op.Op.TheVariants.{Erase, Program};
 ghost use Rattle.mc_flash.specs.declared.op.Slot.TheVariants.{Primary, Secondary};
-ghost use Rattle.mc_life.specs.Device.{worn, AskFails, asked, magic_write, marked, wiped, wipes};
+ghost use Rattle.mc_life.specs.Device.{worn, AskFails, asked, is_free, magic_write, marked, padded, wiped, wipes};
 ghost use Rattle.mc_boot.specs.Plan.{image_ok_write};
 ghost use Rattle.mc_trailer.specs.Trailer.{one_unit, before_end, place};
 ghost use Rattle.mc_boot.specs.Restart.{filled};
@@ -139,6 +139,49 @@ pub fn ask<F: Flash>(flash: &mut F, request: Request) -> Result<(), FlashError>
         Request::Test => Ok(()),
         Request::Perm => write_image_ok(flash),
     }
+}
+
+// Bytes with 0xff after them, up to whole units.
+fn padded(alloc: Global, layout: &Layout, part: &[u8]) -> Result<Vec<u8>, AllocError>
+    requires { length part.now ≤ size_of layout.now Secondary }
+    ensures value { IfOk result (λ bytes. bytes.items ≡ padded layout.now.unit part.now) }
+    ensures whole { IfOk result (λ bytes. length bytes.items % layout.now.unit ≡ 0) }
+    ensures at_least { IfOk result (λ bytes. length part.now ≤ length bytes.items) }
+    ensures less { IfOk result (λ bytes. length bytes.items < length part.now + layout.now.unit) }
+{
+    let whole = part.len().next_multiple_of(layout.unit() as usize);
+    let mut bytes = Vec::with_capacity(alloc, whole)?;
+    bytes.extend_from_slice(part)?;
+    bytes.resize(whole, 0xff)?;
+    Ok(bytes)
+}
+
+/// Writes bytes into the secondary from the start of a unit on, padded with 0xff to whole units.
+///
+/// # Errors
+///
+/// `NotErased` where something is written already where it writes; `Memory`, where an allocation failed or the flash can't grow.
+pub fn write<F: Flash>(alloc: Global, flash: &mut F, at: u32, part: &[u8]) -> Result<(), FlashError>
+    requires inside { at + length part.now ≤ size_of (F.seen flash.old).geometry Secondary }
+    requires aligned { at % (F.seen flash.old).geometry.unit ≡ 0 }
+    ensures content { let f = F.seen flash.old in OnOk result ((F.seen flash.new).content
+        ≡ with_bytes f.content Secondary
+        (put f.content.secondary at (padded f.geometry.unit part.now))) }
+    ensures free { let f = F.seen flash.old in OnOk result
+        (is_free f.content at (padded f.geometry.unit part.now) ≡ true) }
+    ensures layout { (F.seen flash.new).geometry ≡ (F.seen flash.old).geometry }
+    ensures refused { let f = F.seen flash.old in IfErr result (λ e. e ≡ FlashError.NotErased
+        → is_free f.content at (padded f.geometry.unit part.now) ≡ false) }
+{
+    // Reading the secondary gives the prover its length.
+    let _secondary = flash.read(Slot::Secondary);
+    // Reading a field gives the prover that it is a layout.
+    let _unit = flash.layout().unit();
+    if part.is_empty() {
+        return Ok(());
+    }
+    let bytes = padded(alloc, flash.layout(), part)?;
+    flash.program(Slot::Secondary, at, &bytes)
 }
 
 /// Bytes at the start of the secondary, the rest 0xff.

@@ -83,6 +83,7 @@ status_of refusals.MoreCuts = 1
 status_of refusals.InUse = 2
 status_of refusals.LayoutFile = 2
 status_of refusals.NeverSwaps = 2
+status_of refusals.LargePicture = 2
 status_of refusals.Expectation = 2
 status_of refusals.Device = 2
 status_of (refusals.Script e) = status_of_script e

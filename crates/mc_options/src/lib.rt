@@ -1,6 +1,8 @@
 //! What the words of a command line say; the files that it reads and writes; and its refusals, with their reasons.
 #![tactic(auto)]
 
+mod cuts;
+mod heads;
 mod layout_file;
 mod notes;
 mod numbers;
@@ -10,9 +12,10 @@ mod reasons;
 mod refusal;
 mod same_file;
 mod source;
+mod usual;
 
 pub use layout_file::{asks_file, with_files};
-pub use notes::print_note;
+pub use notes::{print_cost, print_note};
 pub use numbers::NumberOption;
 pub use options::{
     ExploreOptions, FlashOptions, RangeOptions, Source, Spelled, census_options, create_options,
@@ -24,3 +27,4 @@ pub use reasons::{report_file, report_reason};
 pub use refusal::Refusal;
 pub use same_file::{check_outputs, is_same_file};
 pub use source::{GREATEST_FLASH, GREATEST_IMAGE, read_file, read_start};
+pub use usual::entry_name;

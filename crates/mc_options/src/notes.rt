@@ -1,9 +1,12 @@
 //! What is odd in a command line that is not refused.
+use crate::heads::is_hex_file;
 use crate::options::layout_options;
 use clap::ArgMatches;
-use std::io::{Read, Write};
+use mc_boot::swap_operations;
+use mc_flash::Grain;
+use std::io;
+use std::io::Write;
 use std::rt::Files;
-use std::{fs, io};
 
 /// Prints what is odd in what a command was given, if something is: a payload that looks like text in Intel's hexadecimal form, or a
 /// trailer with room for fewer sectors than a slot has.
@@ -26,6 +29,44 @@ pub fn print_note<F: Files, E: Write>(
     }
 }
 
+/// The most operations of a swap with which `locate` by write units takes a moment.
+const SOME_OPERATIONS: u32 = 20_000;
+
+/// The most operations of a swap with which a census of two rounds takes a moment.
+const MANY_OPERATIONS: u32 = 1_000_000;
+
+/// How many operations a swap has at most, by the layout and the grain that the words give, if they give them.
+fn operations_of(arguments: &ArgMatches<'_>) -> Option<u32> {
+    let layout = layout_options(arguments).ok()?;
+    let grain = Grain::read(arguments.get_str("grain")?)?;
+    Some(swap_operations(&layout, grain))
+}
+
+/// Prints, before a command begins, that it takes long, if it does: to locate a dump between the write units of a large swap, or to count all
+/// campaigns of two very large ones.
+///
+/// # Errors
+///
+/// Where the output fails.
+pub fn print_cost<E: Write>(name: &str, arguments: &ArgMatches<'_>, err: &mut E) -> io::Result<()> {
+    let (grain, rounds) = match name {
+        "locate" => (arguments.get_str("grain"), None),
+        "census" => (None, arguments.get_str("rounds")),
+        _ => return Ok(()),
+    };
+    match (operations_of(arguments), grain, rounds) {
+        (Some(count), Some("unit"), _) if count > SOME_OPERATIONS => writeln!(
+            err,
+            "mcsim: note: by --grain unit the flash before each of up to {count} operations of three swaps is looked at, which takes minutes; --grain call tells at once between which calls the dump lies"
+        ),
+        (Some(count), _, Some("2")) if count > MANY_OPERATIONS => writeln!(
+            err,
+            "mcsim: note: a swap has up to {count} operations, and two rounds take some seconds for each million"
+        ),
+        _ => Ok(()),
+    }
+}
+
 /// Prints that the trailer has room for fewer sectors than a slot has, if that is so.
 ///
 /// # Errors
@@ -42,17 +83,4 @@ fn note_sectors<E: Write>(arguments: &ArgMatches<'_>, err: &mut E) -> io::Result
         }
     }
     Ok(())
-}
-
-/// Whether a file begins as one in Intel's hexadecimal form does: a colon, and then 10 digits.
-fn is_hex_file<F: Files>(files: &F, path: &str) -> bool {
-    let mut head = [0; 11];
-    match fs::open(files, path) {
-        Ok(mut file) => {
-            file.read_exact(&mut head).is_ok()
-                && head[0] == b':'
-                && head[1..].iter().all(|byte| byte.is_ascii_hexdigit())
-        }
-        Err(_) => false,
-    }
 }

@@ -1,13 +1,16 @@
 //! Files that are written: a plain one is whole, or as it was.
 use crate::refusal::Refusal;
 use std::alloc::Global;
-use std::fs;
 use std::fs::{OpenFile, OpenOptions};
-use std::io::ErrorKind;
+use std::io::{ErrorKind, Read};
 use std::rt::Files;
+use std::{fs, io};
 
 /// How many names beside a target are tried for a file that is not there yet.
 const MOST_NAMES: u32 = 100;
+
+/// What stands in the name of such a file between the target's name and the number of the process that writes it.
+const MARK: &str = ".new";
 
 /// A file that is written.
 #[derive(Drop)]
@@ -40,12 +43,29 @@ impl<'f, 'p, F: Files> Outfile<'f, 'p, F> {
     }
 
     /// A new file beside the one of that path, whose place it takes when it is whole. Where that is there and no plain file, as a
-    /// device, a pipe or a link, it is written as it is.
+    /// device, a pipe or a link, it is written as it is. What runs have left beside it that were stopped is removed first.
     ///
     /// # Errors
     ///
     /// `Open` where it cannot be made; `Memory`.
     pub fn beside(
+        files: &'f F,
+        alloc: Global,
+        target: &'p str,
+    ) -> Result<Outfile<'f, 'p, F>, Refusal> {
+        if own_number(files).is_some() {
+            // What stays takes no one's place.
+            let _ = remove_left(files, alloc, target);
+        }
+        Outfile::in_new_folder(files, alloc, target)
+    }
+
+    /// The same in a folder that this run has made, in which no other has left anything.
+    ///
+    /// # Errors
+    ///
+    /// `Open` where it cannot be made; `Memory`.
+    pub fn in_new_folder(
         files: &'f F,
         alloc: Global,
         target: &'p str,
@@ -90,7 +110,54 @@ impl<'f, 'p, F: Files> Outfile<'f, 'p, F> {
     }
 }
 
-/// Makes a file of a new name beside a target, and returns its path too.
+/// The number of this process, where the system tells it.
+fn own_number<F: Files>(files: &F) -> Option<u32> {
+    let mut file = fs::open(files, "/proc/self/stat").ok()?;
+    let mut head = [0; 16];
+    let count = file.read(&mut head).ok()?;
+    let text = str::from_utf8(head.get(..count)?).ok()?;
+    let (number, _rest) = text.split_once(' ')?;
+    number.parse().ok()
+}
+
+/// Whether a process is over, where the system tells it.
+fn is_over<F: Files>(files: &F, alloc: Global, process: u32) -> bool {
+    let Ok(path) = format!(in alloc; "/proc/{process}") else {
+        return false;
+    };
+    match fs::metadata(files, path.as_str()) {
+        Ok(_) => false,
+        Err(error) => error.kind() == ErrorKind::NotFound,
+    }
+}
+
+/// The process that writes a file of that name, if it is one beside a target of this one.
+fn writer_of(name: &str, target: &str) -> Option<u32> {
+    let number = name.strip_prefix(target)?.strip_prefix(MARK)?;
+    number.parse().ok()
+}
+
+/// Removes the files beside a target that processes began which are over, as far as that can be done.
+///
+/// # Errors
+///
+/// What the system says of the folder, or of one of them.
+fn remove_left<F: Files>(files: &F, alloc: Global, target: &str) -> io::Result<()> {
+    let (folder, target) = target.rsplit_once('/').unwrap_or((".", target));
+    let folder = if folder.is_empty() { "/" } else { folder };
+    for entry in fs::read_dir(&(files, alloc), folder)? {
+        let entry = entry?;
+        if let Some(process) = writer_of(entry.file_name(), target)
+            && is_over(files, alloc, process)
+        {
+            fs::remove_file(files, entry.path())?;
+        }
+    }
+    Ok(())
+}
+
+/// Makes a file of a new name beside a target, and returns its path too. The name ends with the number of this process, where the system tells
+/// it, so that a later run knows whether its run is over.
 ///
 /// # Errors
 ///
@@ -100,15 +167,31 @@ fn create_beside<F: Files>(
     alloc: Global,
     target: &str,
 ) -> Result<(String, F::File), Refusal> {
-    let mut options = OpenOptions::new();
-    let _ = options.write(true).create_new(true);
-    for number in 0..MOST_NAMES {
-        let path = format!(in alloc; "{target}.new{number}").map_err(|_| Refusal::Memory)?;
-        match options.open(files, path.as_str()) {
-            Ok(file) => return Ok((path, file)),
-            Err(error) if error.kind() == ErrorKind::AlreadyExists => {}
-            Err(_) => return Err(Refusal::Open),
+    let own = own_number(files).unwrap_or(0);
+    let first = format!(in alloc; "{target}{MARK}{own}").map_err(|_| Refusal::Memory)?;
+    if let Some(file) = create_new(files, first.as_str())? {
+        return Ok((first, file));
+    }
+    for number in 1..MOST_NAMES {
+        let path = format!(in alloc; "{target}{MARK}{own}-{number}").map_err(|_| Refusal::Memory)?;
+        if let Some(file) = create_new(files, path.as_str())? {
+            return Ok((path, file));
         }
     }
     Err(Refusal::Open)
+}
+
+/// Makes a file of that name, and returns nothing where there is one.
+///
+/// # Errors
+///
+/// `Open` where it cannot be made.
+fn create_new<F: Files>(files: &F, path: &str) -> Result<Option<F::File>, Refusal> {
+    let mut options = OpenOptions::new();
+    let _ = options.write(true).create_new(true);
+    match options.open(files, path) {
+        Ok(file) => Ok(Some(file)),
+        Err(error) if error.kind() == ErrorKind::AlreadyExists => Ok(None),
+        Err(_) => Err(Refusal::Open),
+    }
 }

@@ -1,23 +1,29 @@
 //! What a refusal is about: a line more than its number and name.
+ghost use Rattle.std.specs.Prelude.{◌≤◌};
+
+use crate::cuts::report_cut;
+use crate::heads::report_head;
 use crate::layout_file::report_lines;
 use crate::numbers::NumberOption;
-use crate::options::layout_options;
+use crate::options::{create_options, layout_options};
 use crate::refusal::Refusal;
 use crate::source::{GREATEST_FLASH, GREATEST_IMAGE, read_file};
 use clap::ArgMatches;
 use mc_cli::WatchedFiles;
-use mc_explore::StartError;
+use mc_explore::{ReplayError, StartError};
 use mc_flash::{LayoutError, Slot};
-use mc_image::ImageView;
-use mc_imgtool::ToolError;
+use mc_image::{ImageError, ImageView};
+use mc_imgtool::{CreateOptions, ToolError, create};
 use mc_life::{EventError, LifeError};
+use mc_trace::TraceError;
 use std::alloc::Global;
 use std::io::{Read, Write};
 use std::rt::Files;
 use std::{fs, io};
 
-/// Prints the reason of a refusal, if it is known: the file and what the system says of it, how much of it is read, or the line of it that is
-/// refused; the sizes of an image and of what fits; the rule that a layout breaks, with its numbers; or the words that are missing.
+/// Prints the reason of a refusal, if it is known: the file and what the system says of it, how much of it is read, what it begins with, or the
+/// line of it that is refused; the sizes of an image and of what fits; the rule that a layout breaks, with its numbers; the boot that a cut
+/// can't fall into; or the words that are missing.
 ///
 /// # Errors
 ///
@@ -32,15 +38,112 @@ pub fn report_reason<F: Files, E: Write>(
     match refusal {
         Refusal::Layout(error) => report_layout(arguments, *error, err),
         Refusal::NeverSwaps => report_never(arguments, err),
+        Refusal::LargePicture => writeln!(
+            err,
+            "mcsim: give --from and --to, with at most 20000 operations between them"
+        ),
         Refusal::Start(error) => report_start(&files, alloc, arguments, *error, err),
+        Refusal::Replay(ReplayError::CannotOccur(index))
+        | Refusal::Trace(TraceError::CannotOccur(index)) => report_cut(
+            &files, alloc, arguments, *index, err,
+        ),
         Refusal::Source => report_source(arguments, err),
-        Refusal::Tool(ToolError::InputTooLong) => report_long(files, arguments, err),
-        Refusal::Tool(ToolError::Read) => match arguments.get_str("INFILE") {
-            Some(path) => report_unread(&files, path, err),
-            None => report_file(files, alloc, refusal, err),
-        },
+        Refusal::Device => writeln!(err, "mcsim: give one of --flash and --image"),
+        Refusal::Expectation => report_expectation(arguments, err),
+        Refusal::Tool(error) => report_tool(files, alloc, arguments, *error, err),
         _ => report_file(files, alloc, refusal, err),
     }
+}
+
+/// Prints the reason of a refusal of the image tool, if it is known.
+///
+/// # Errors
+///
+/// Where the output fails.
+fn report_tool<F: Files, E: Write>(
+    files: WatchedFiles<'_, F>,
+    alloc: Global,
+    arguments: &ArgMatches<'_>,
+    error: ToolError,
+    err: &mut E,
+) -> io::Result<()> {
+    match (error, arguments.get_str("INFILE")) {
+        (ToolError::InputTooLong, _) => report_long(files, arguments, err),
+        (ToolError::Read, Some(path)) => report_unread(&files, path, err),
+        (ToolError::Image(error), Some(path)) => report_head(&files, path, error, err),
+        (ToolError::SlotTooSmall, Some(path)) => report_slot(&files, alloc, arguments, path, err),
+        _ => report_file(files, alloc, &Refusal::Tool(error), err),
+    }
+}
+
+/// How many bytes the image of a payload has, if that can be read and made.
+fn image_size<F: Files>(
+    files: &F,
+    alloc: Global,
+    options: &CreateOptions,
+    path: &str,
+) -> Option<usize>
+    requires { 32 ≤ options.now.header_size }
+{
+    let options = CreateOptions {
+        slot_size: None,
+        pad: false,
+        confirm: false,
+        ..*options
+    };
+    let mut payload = fs::open(files, path).ok()?;
+    let mut image = Vec::new(alloc);
+    create(alloc, &options, &mut payload, &mut image).ok()?;
+    Some(image.len())
+}
+
+/// Prints the sizes of an image, of its trailer and of the slot that has no room for both.
+///
+/// # Errors
+///
+/// Where the output fails.
+fn report_slot<F: Files, E: Write>(
+    files: &F,
+    alloc: Global,
+    arguments: &ArgMatches<'_>,
+    path: &str,
+    err: &mut E,
+) -> io::Result<()> {
+    if let Ok(options) = create_options(arguments)
+        && let Some(slot) = options.slot_size
+        && let Some(size) = image_size(files, alloc, &options, path)
+    {
+        let trailer = 3 * u64::from(options.max_sectors) * u64::from(options.align) + 48;
+        return writeln!(
+            err,
+            "mcsim: the image has {size} bytes, its trailer {trailer}, and --slot-size is {slot}"
+        );
+    }
+    Ok(())
+}
+
+/// Prints the options that say what the slots are to hold at the end, where one is missing.
+///
+/// # Errors
+///
+/// Where the output fails.
+fn report_expectation<E: Write>(arguments: &ArgMatches<'_>, err: &mut E) -> io::Result<()> {
+    let missing = first_missing(arguments, &["expect-primary", "expect-secondary"]);
+    match missing {
+        Some(name) => writeln!(
+            err,
+            "mcsim: --{name} is missing: a dump does not say what is right"
+        ),
+        None => Ok(()),
+    }
+}
+
+/// The first of some options that is not given, if there is one.
+fn first_missing<'n>(arguments: &ArgMatches<'_>, names: &[&'n str]) -> Option<&'n str> {
+    names
+        .iter()
+        .copied()
+        .find(|name| arguments.get_str(name).is_none())
 }
 
 /// Prints the file that a refusal is about, if it is known, and what the system says of it, or the line that is refused.
@@ -60,6 +163,10 @@ pub fn report_file<F: Files, E: Write>(
         | Refusal::Life(LifeError::Refused(EventError::NoFile, _, _)) => report_unopened(
             files, err,
         ),
+        Refusal::Life(LifeError::Refused(_, _, number)) => match files.take_line() {
+            Some(line) => writeln!(err, "mcsim: line {number} is: {line}"),
+            None => Ok(()),
+        },
         Refusal::Tool(ToolError::Read) => match files.take_opened() {
             Some(path) => report_unread(&files, &path, err),
             None => Ok(()),
@@ -72,23 +179,28 @@ pub fn report_file<F: Files, E: Write>(
     }
 }
 
-/// Prints what a source is given by.
+/// Prints what a source is given by, and the option that is missing.
 ///
 /// # Errors
 ///
 /// Where the output fails.
 fn report_source<E: Write>(arguments: &ArgMatches<'_>, err: &mut E) -> io::Result<()> {
-    let is_dump = arguments.get_str("flash").is_some()
-        && arguments.get_str("kind").is_none()
-        && arguments.get_str("image-a").is_none()
-        && arguments.get_str("image-b").is_none();
-    if is_dump {
-        writeln!(err, "mcsim: --known-a and --known-b go together")
-    } else {
-        writeln!(
+    let images = ["kind", "image-a", "image-b"];
+    let (flash, missing) = (
+        arguments.get_str("flash"),
+        first_missing(arguments, &images),
+    );
+    let is_bare = images.iter().all(|name| arguments.get_str(name).is_none());
+    match (flash, missing) {
+        (Some(_), _) if is_bare => writeln!(err, "mcsim: --known-a and --known-b go together"),
+        (None, Some(missing)) if !is_bare => writeln!(
+            err,
+            "mcsim: --{missing} is missing: give --flash alone, or all of --kind, --image-a and --image-b"
+        ),
+        _ => writeln!(
             err,
             "mcsim: give --flash alone, or all of --kind, --image-a and --image-b"
-        )
+        ),
     }
 }
 
@@ -256,8 +368,8 @@ fn report_start<F: Files, E: Write>(
         .or(arguments.get_str("known-b"))
         .unwrap_or("");
     match error {
-        StartError::ImageA(_) => writeln!(err, "mcsim: image A is {first}"),
-        StartError::ImageB(_) => writeln!(err, "mcsim: image B is {second}"),
+        StartError::ImageA(error) => report_image(files, ("A", first), error, err),
+        StartError::ImageB(error) => report_image(files, ("B", second), error, err),
         StartError::DoesNotFit => {
             report_size(files, alloc, arguments, ("A", first), err)?;
             report_size(files, alloc, arguments, ("B", second), err)
@@ -265,6 +377,22 @@ fn report_start<F: Files, E: Write>(
         StartError::FlashSize => report_flash(files, arguments, err),
         StartError::Memory => Ok(()),
     }
+}
+
+/// Prints the file of an image that is not valid, and what it begins with, if that is known.
+///
+/// # Errors
+///
+/// Where the output fails.
+fn report_image<F: Files, E: Write>(
+    files: &F,
+    image: (&str, &str),
+    error: ImageError,
+    err: &mut E,
+) -> io::Result<()> {
+    let (letter, path) = image;
+    writeln!(err, "mcsim: image {letter} is {path}")?;
+    report_head(files, path, error, err)
 }
 
 /// Prints the size of an image that does not fit, and how much fits.

@@ -101,6 +101,9 @@ pub enum Refusal {
     /// A verdict is asked of a layout with which the boot loader swaps nothing.
     #[error("E89 NeverSwaps")]
     NeverSwaps,
+    /// A picture would show more operations than a browser can.
+    #[error("E91 LargePicture")]
+    LargePicture,
     /// A file of a layout has a line that is none of its options.
     #[error("E88 LayoutFile")]
     LayoutFile,
@@ -156,6 +159,7 @@ impl Refusal {
             | Refusal::InUse
             | Refusal::LayoutFile
             | Refusal::NeverSwaps
+            | Refusal::LargePicture
             | Refusal::Layout(_)
             | Refusal::Schedule(_)
             | Refusal::Campaign(_)

@@ -10,7 +10,7 @@ use Rattle.mc_explore.specs.{inner.LastCuts.{boot_at}, inner.OneRound.{begun_of}
 use Rattle.mc_explore.specs.Boots.{at_cut}
 use Rattle.mc_flash.specs.{Flash.{Content, apply}, Geometry.{Geometry}, declared.op.Op.{Op}}
 use Rattle.mc_output.specs.{Text.{AppendsPrefix}, facts.Prefixes.{IsOut, out_all, out_begun, out_more, out_prefix}}
-use Rattle.mc_trace.specs.Picture.{Shown, boot_row, boot_rows, group_end, grouped_text, is_erase, row_of, rows_text, up_to_cut}
+use Rattle.mc_trace.specs.Picture.{Shown, boot_row, boot_rows, group_end, grouped_text, opens, row_of, rows_text, up_to_cut}
 use Rattle.mc_trace.specs.{declared.picture_rows.Look.{Look}, declared.picture_rows.Row.{Row}}
 use Rattle.mc_trace.specs.inner.Rows.{IsRowHere, IsRowOf, length_to, model_of, row_shown}
 use Rattle.mc_walk.specs.Walks.{Walked}
@@ -105,15 +105,15 @@ module _ (look : Look) (start : Content) (x : PowerOn) (cut : Option ℕ) where
   rows_begun before = out_begun before whole
 
   module _ (inside : Bool) (number : ℕ) (s : Content) (row : Row) (is : IsRowOf x cut s row) (here : row.number ≡ number) (more : number < length list) where
-    next_row : left inside number ≡ grouped_text look x.geometry start inside (row_shown row s) ++ left (inside || is_erase row.op) (number + 1)
+    next_row : left inside number ≡ grouped_text look x.geometry start inside (row_shown row s) ++ left (inside || opens look number row.op) (number + 1)
     next_row =
         let op_is : slice_get (ops_of x) number ≡ Some row.op = subst (λ n. slice_get (ops_of x) n ≡ Some row.op) here is.op_is in
         let content : s ≡ at_cut x number = is.content_is ∙ ap (at_cut x) here in
         let report : outcome_of (again x (at_cut x number)) ≡ Some (shown row.outcome) = sym (ap (λ (t : Content). outcome_of (again x t)) content) ∙ is.outcome_is in
         let shows : row_of x cut number row.op (shown row.outcome) ≡ row_shown row s = sym shown_is in
         ap (λ (ops : List Op). rows_text look start x cut inside number ops) (next_shown (ops_of x) cut number row.op op_is more)
-        ∙ ap (λ (o : Option Report). boot_row look start x cut inside number row.op o ++ left (inside || is_erase row.op) (number + 1)) report
-        ∙ ap (λ (r : Shown). grouped_text look x.geometry start inside r ++ left (inside || is_erase row.op) (number + 1)) shows
+        ∙ ap (λ (o : Option Report). boot_row look start x cut inside number row.op o ++ left (inside || opens look number row.op) (number + 1)) report
+        ∙ ap (λ (r : Shown). grouped_text look x.geometry start inside r ++ left (inside || opens look number row.op) (number + 1)) shows
       where
         shown_is : row_shown row s ≡ row_of x cut number row.op (shown row.outcome)
         shown_is = let content : s ≡ at_cut x number = is.content_is ∙ ap (at_cut x) here in rw (is.cut_is, content, here) refl
@@ -122,10 +122,10 @@ module _ (look : Look) (start : Content) (x : PowerOn) (cut : Option ℕ) where
       abbrev text : List ℕ
       text = grouped_text look g start inside (row_shown row s)
 
-      out_here : IsOut before mid whole (text ++ left (inside || is_erase row.op) (number + 1))
+      out_here : IsOut before mid whole (text ++ left (inside || opens look number row.op) (number + 1))
       out_here = rw (sym layout_is, sym next_row) out
 
-      pub row_out : Appends mid new text → IsOut before new whole (left (inside || is_erase row.op) (number + 1))
+      pub row_out : Appends mid new text → IsOut before new whole (left (inside || opens look number row.op) (number + 1))
       row_out p = out_more before mid new whole _ _ out_here p
 
       pub row_begun : AppendsPrefix mid new text → AppendsPrefix before new whole

@@ -7,18 +7,19 @@ use Rattle.mc_flash.specs.Flash.{Content}
 use Rattle.mc_trace.specs.{Picture.{BeginsPicture, Draws, IsPicture, IsVerdict, look_for, page_text}, Trace.{RefusesTrace}}
 use Rattle.mc_trace.specs.declared.error.TraceError.{TraceError}
 use Rattle.mc_trace.specs.declared.error.TraceError.TheVariants as errors
-use Rattle.mc_trace.specs.{declared.picture.Verdict.{Verdict}, declared.picture_rows.Look.{Look}, inner.Boots.{WritesText}}
+use Rattle.mc_trace.specs.{declared.picture.Verdict.{Verdict}, declared.picture_rows.Look.{Look}, declared.trace.Span.{Span}, inner.Boots.{WritesText}}
 use Rattle.mc_trace.proofs.Tracing.{no_refusal}
 
-module _ (e : Expectation) (start : PowerOn) (cuts : List ℕ) (look : Look) (v : Verdict) (is : IsVerdict e start v) (look_is : look ≡ look_for start.geometry e) (before after : Option (List ℕ)) where
-  picture_is : IsPicture e start cuts (page_text look start cuts v)
+module _ (e : Expectation) (span : Span) (start : PowerOn) (cuts : List ℕ) (look : Look) (v : Verdict) (is : IsVerdict e start v) (look_is : look ≡ look_for start.geometry e span)
+    (before after : Option (List ℕ)) where
+  picture_is : IsPicture e span start cuts (page_text look start cuts v)
   picture_is = (v, is, ap (λ (l : Look). page_text l start cuts v) look_is)
 
-  pub drawn : {A E : Type 0} (r : Result A E) → WritesText r before after (page_text look start cuts v) → OnOk r (Draws e start cuts before after)
+  pub drawn : {A E : Type 0} (r : Result A E) → WritesText r before after (page_text look start cuts v) → OnOk r (Draws e span start cuts before after)
   drawn (Ok _) out = (page_text look start cuts v, picture_is, out)
   drawn (Err _) out = tt
 
-  pub begun : {A E : Type 0} (r : Result A E) → WritesText r before after (page_text look start cuts v) → OnErr r ((after ≡ before) ⊎ BeginsPicture e start cuts before after)
+  pub begun : {A E : Type 0} (r : Result A E) → WritesText r before after (page_text look start cuts v) → OnErr r ((after ≡ before) ⊎ BeginsPicture e span start cuts before after)
   begun (Ok _) out = tt
   begun (Err _) out = inr (page_text look start cuts v, picture_is, out)
 

@@ -9,6 +9,7 @@ mod Headed
 mod Hinted
 mod Drawn
 mod SlotCells
+mod RunWords
 mod PatchLines
 mod Patched
 pub mod Out

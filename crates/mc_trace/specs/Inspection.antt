@@ -1,12 +1,11 @@
 -- A flash explained: this project's own text (docs/FORMAT.md, "Inspection").
 use Rattle.std.specs.Prelude.{List, None, Option, Some, codes, if◌then◌else◌, slice_get, ℕ, ◌++◌}
 use Rattle.mc_boot.specs.{Outcome.{identity_text, outcome_of}, Plan.{PowerOn, plan}}
-use Rattle.mc_flash.specs.{Flash.{Content, slot_text}, Geometry.{Geometry}, declared.op.Op.{Op}, declared.op.Slot.{Slot}}
+use Rattle.mc_flash.specs.{Flash.{Content, is_blank, slot_text}, Geometry.{Geometry}, declared.op.Op.{Op}, declared.op.Slot.{Slot}}
 use Rattle.mc_flash.specs.declared.op.Slot.TheVariants.{Primary, Secondary}
 use Rattle.mc_image.specs.{Valid.{Identity, id_of, image_fault}, declared.error.ImageError.{ImageError}}
 use Rattle.mc_image.specs.declared.error.ImageError.TheVariants as faults
-use Rattle.mc_trace.specs.{Hints.{hints_text}, Sectors.{line_of}, Trace.{operation_text, outcome_lines}}
-use Rattle.mc_trace.specs.declared.cells.Words.TheVariants as words
+use Rattle.mc_trace.specs.{Hints.{hints_text}, SlotWords.{sectors_text}, Trace.{operation_text, outcome_lines}, Verdict.{verdict_text}}
 use Rattle.mc_trailer.specs.{Tables.{resumes, swap_type, trailer_text, type_text}, Trailer.{trailer_of}, declared.tables.Profile.{Profile}}
 use Rattle.mc_trailer.specs.declared.trailer.Trailer.{Trailer}
 
@@ -41,7 +40,7 @@ fault_text faults.WrongDigest = codes "E12 WrongDigest"
 fault_text faults.TooLarge = codes "E13 TooLarge"
 fault_text faults.Memory = codes "E14 Memory"
 
--- What a slot with these bytes holds: its valid image, or none and why.
+-- What a slot with these bytes holds: nothing at all, its valid image, or none and why.
 abbrev pub none_text : Option ImageError → List ℕ
 none_text None = codes "none"
 none_text (Some fault) = codes "none " ++ fault_text fault
@@ -50,12 +49,11 @@ abbrev pub held_text : Option Identity → Option ImageError → List ℕ
 held_text (Some image) fault = identity_text image
 held_text None fault = none_text fault
 
-unfoldable pub image_text : Slot → List ℕ → List ℕ
-image_text slot bytes = codes "image " ++ (slot_text slot ++ (codes " " ++ (held_text (id_of bytes) (image_fault bytes) ++ codes "\n")))
+abbrev pub bytes_text : List ℕ → List ℕ
+bytes_text bytes = if is_blank bytes then codes "blank" else held_text (id_of bytes) (image_fault bytes)
 
--- What lies in the sectors of a slot with these bytes, by what lies in those of a named flash.
-unfoldable pub sectors_text : Geometry → Content → Slot → List ℕ → List ℕ
-sectors_text g named slot bytes = codes "sectors " ++ line_of words.All g named bytes slot
+unfoldable pub image_text : Slot → List ℕ → List ℕ
+image_text slot bytes = codes "image " ++ (slot_text slot ++ (codes " " ++ (bytes_text bytes ++ codes "\n")))
 
 -- The first operation of a boot, as a trace has it, or none.
 abbrev pub first_text : Geometry → Option Op → List ℕ
@@ -66,10 +64,17 @@ first_text g (Some op) = codes "first " ++ (operation_text g op ++ codes "\n")
 unfoldable pub boot_text : PowerOn → List ℕ
 boot_text x = first_text x.geometry (slice_get (plan x).list 0) ++ outcome_lines (outcome_of x)
 
+-- The verdict, both trailers, and the hints.
+abbrev pub head_text : PowerOn → List ℕ → List ℕ
+head_text x hints =
+    (verdict_text x.geometry hints (id_of x.content.primary) (outcome_of x) ++ trailers_text x.rules.profile x.geometry x.content) ++ hints
+
+-- What the slots hold, and what lies in their sectors, by those of a named flash, if there is one.
+abbrev pub both_slots_text : Geometry → Option Content → Content → List ℕ
+both_slots_text g named s =
+    ((image_text Primary s.primary ++ image_text Secondary s.secondary) ++ sectors_text g named Primary s.primary) ++ sectors_text g named Secondary s.secondary
+
 -- All of it.
-abbrev pub inspection_text : PowerOn → Content → List ℕ
+abbrev pub inspection_text : PowerOn → Option Content → List ℕ
 inspection_text x named =
-    let hinted = trailers_text x.rules.profile x.geometry x.content ++ hints_text x.geometry x.content.primary x.content.secondary in
-    let images = (hinted ++ image_text Primary x.content.primary) ++ image_text Secondary x.content.secondary in
-    let sectors = (images ++ sectors_text x.geometry named Primary x.content.primary) ++ sectors_text x.geometry named Secondary x.content.secondary in
-    sectors ++ boot_text x
+    (head_text x (hints_text x.geometry x.content.primary x.content.secondary) ++ both_slots_text x.geometry named x.content) ++ boot_text x

@@ -4,6 +4,8 @@ pub mod Wear
 pub mod Sectors
 pub mod Patch
 pub mod Hints
+pub mod SlotWords
+pub mod Verdict
 pub mod Inspection
 pub mod Picture
 pub mod inner

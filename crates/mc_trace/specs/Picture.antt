@@ -7,7 +7,7 @@ use Rattle.mc_boot.specs.{Outcome.{Report, ops_of, outcome_of}, Plan.{PowerOn, a
 use Rattle.mc_explore.specs.{Census.{IsCensus, census_text}, Right.{AreRights, Rights, is_right, rights_text}}
 use Rattle.mc_explore.specs.Boots.{at_cut}
 use Rattle.mc_explore.specs.{Rows.{outcome_text, slots_text, subject}, declared.expectation.Expectation.{Expectation}}
-use Rattle.mc_trace.specs.{Trace.{operation_text}, declared.picture_rows.Look.{Look}, Sectors.{cell_of, cell_word, letter, sector_of}}
+use Rattle.mc_trace.specs.{Trace.{is_in, operation_text}, declared.picture_rows.Look.{Look}, declared.trace.Span.{Span}, Sectors.{cell_of, cell_word, letter, sector_of}}
 use Rattle.mc_trace.specs.declared.cells.Cell.{Cell}
 use Rattle.mc_trace.specs.declared.cells.Cell.TheVariants as cells
 use Rattle.mc_trace.specs.declared.cells.Words.TheVariants as words
@@ -83,13 +83,19 @@ one_more r cell = record { first = r.first; count = r.count + 1; rises = not (is
 abbrev pub next_run : Bool → Run → Cell × Bool → Run
 next_run merges r cell = if joins merges r cell then one_more r cell.0 else run_of cell
 
-abbrev pub run_before : Bool → Run → Cell × Bool → List ℕ
-run_before merges r cell = if joins merges r cell then [] else run_text r
+abbrev pub before_by : (Run → List ℕ) → Bool → Run → Cell × Bool → List ℕ
+before_by text merges r cell = if joins merges r cell then [] else text r
 
--- A run, and more cells after it.
+-- A run, and more cells after it, by the text of a run.
+abbrev pub runs_by : (Run → List ℕ) → Bool → Run → List (Cell × Bool) → List ℕ
+runs_by text merges r [] = text r
+runs_by text merges r (cell ∷ rest) = before_by text merges r cell ++ runs_by text merges (next_run merges r cell) rest
+
+abbrev pub run_before : Bool → Run → Cell × Bool → List ℕ
+run_before merges r cell = before_by run_text merges r cell
+
 abbrev pub runs_text : Bool → Run → List (Cell × Bool) → List ℕ
-runs_text merges r [] = run_text r
-runs_text merges r (cell ∷ rest) = run_before merges r cell ++ runs_text merges (next_run merges r cell) rest
+runs_text merges r cells = runs_by run_text merges r cells
 
 abbrev pub is_target : Option ℕ → ℕ → Bool
 is_target None i = false
@@ -175,9 +181,16 @@ before_row look inside false = []
 abbrev pub after_row : Bool → List ℕ
 after_row begins = if begins then codes "</summary>\n" else []
 
-abbrev pub grouped_text : Look → Geometry → Content → Bool → Shown → List ℕ
-grouped_text look g start inside row =
+abbrev pub seen_text : Look → Geometry → Content → Bool → Shown → List ℕ
+seen_text look g start inside row =
     before_row look inside (is_erase row.op) ++ (row_text look g start row ++ after_row (is_erase row.op))
+
+-- A row is seen where its number lies in the span that is looked at; and only then it begins a group.
+abbrev pub grouped_text : Look → Geometry → Content → Bool → Shown → List ℕ
+grouped_text look g start inside row = if is_in look.span row.number then seen_text look g start inside row else []
+
+abbrev pub opens : Look → ℕ → Op → Bool
+opens look number op = is_in look.span number && is_erase op
 
 -- The operation of that number of the boot from x, and what the boot comes to that is cut there.
 abbrev pub row_of : PowerOn → Option ℕ → ℕ → Op → Report → Shown
@@ -191,7 +204,7 @@ abbrev pub rows_text : Look → Content → PowerOn → Option ℕ → Bool → 
 rows_text look start x cut inside number [] = group_end inside
 rows_text look start x cut inside number (op ∷ ops) =
     boot_row look start x cut inside number op (outcome_of (again x (at_cut x number)))
-    ++ rows_text look start x cut (inside || is_erase op) (number + 1) ops
+    ++ rows_text look start x cut (inside || opens look number op) (number + 1) ops
 
 -- The operations of a boot up to the one before which it is cut, that one too; or all of them.
 abbrev pub up_to_cut : Option ℕ → List Op → List Op
@@ -239,8 +252,8 @@ pub record IsVerdict (e : Expectation) (start : PowerOn) (verdict : Verdict) : T
   pub rights : AreRights subject e start tt 16 verdict.rights
 
 -- Runs of cells are one where the slots have more than 24 sectors, and groups are shut then.
-abbrev pub look_for : Geometry → Expectation → Look
-look_for g e = record { merges = nat_lt 24 (g.primary + g.secondary); expectation = e }
+abbrev pub look_for : Geometry → Expectation → Span → Look
+look_for g e span = record { merges = nat_lt 24 (g.primary + g.secondary); expectation = e; span = span }
 
 abbrev pub intro_text : List ℕ → Rights → List ℕ
 intro_text cuts rights = codes "<h1>schedule " ++ (schedule_text cuts ++ (codes "</h1>\n" ++ (pre_begin (is_none rights.first_not_right) ++ rights_text subject rights)))
@@ -251,13 +264,13 @@ opening_text cuts v = HEAD.now ++ (intro_text cuts v.rights ++ (census_text subj
 abbrev pub page_text : Look → PowerOn → List ℕ → Verdict → List ℕ
 page_text look start cuts v = opening_text cuts v ++ sections_text look start.content 0 start cuts
 
--- The page of a schedule.
-abbrev pub IsPicture : Expectation → PowerOn → List ℕ → List ℕ → Type 0
-IsPicture e start cuts text = (v : Verdict) × IsVerdict e start v × (text ≡ page_text (look_for start.geometry e) start cuts v)
+-- The page of a schedule, with the operations of each boot whose numbers lie in a span.
+abbrev pub IsPicture : Expectation → Span → PowerOn → List ℕ → List ℕ → Type 0
+IsPicture e span start cuts text = (v : Verdict) × IsVerdict e start v × (text ≡ page_text (look_for start.geometry e span) start cuts v)
 
 -- It comes out whole, or a prefix of it.
-abbrev pub Draws : Expectation → PowerOn → List ℕ → Option (List ℕ) → Option (List ℕ) → Type 0
-Draws e start cuts before after = (text : List ℕ) × IsPicture e start cuts text × Appends before after text
+abbrev pub Draws : Expectation → Span → PowerOn → List ℕ → Option (List ℕ) → Option (List ℕ) → Type 0
+Draws e span start cuts before after = (text : List ℕ) × IsPicture e span start cuts text × Appends before after text
 
-abbrev pub BeginsPicture : Expectation → PowerOn → List ℕ → Option (List ℕ) → Option (List ℕ) → Type 0
-BeginsPicture e start cuts before after = (text : List ℕ) × IsPicture e start cuts text × AppendsPrefix before after text
+abbrev pub BeginsPicture : Expectation → Span → PowerOn → List ℕ → Option (List ℕ) → Option (List ℕ) → Type 0
+BeginsPicture e span start cuts before after = (text : List ℕ) × IsPicture e span start cuts text × AppendsPrefix before after text

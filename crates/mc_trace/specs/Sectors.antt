@@ -1,6 +1,7 @@
 -- A flash as bytes: the primary slot, and then the secondary.
 use Rattle.std.specs.{Io.KnownBytes.{Appends, Keeps}, List.{between}}
-use Rattle.std.specs.Prelude.{Err, List, None, Ok, Option, Result, Some, [], bytes_eq, codes, decimal, if◌then◌else◌, length, nat_le, suc, take, zero, ℕ, ⊤, ◌&&◌, ◌*◌, ◌++◌, ◌+◌, ◌-◌, ◌==◌, ◌∷◌, ◌≡◌}
+use Rattle.std.specs.Prelude.{Bool, Err, List, None, Ok, Option, Result, Some, [], bytes_eq, codes, decimal, if◌then◌else◌, length, nat_le, suc}
+use Rattle.std.specs.Prelude.{take, zero, ℕ, ⊤, ◌&&◌, ◌*◌, ◌++◌, ◌+◌, ◌-◌, ◌==◌, ◌∷◌, ◌≡◌}
 use Rattle.mc_boot.specs.{Outcome.{after, left_by}, Plan.{PowerOn, again}}
 use Rattle.mc_explore.specs.Schedules.{CannotOccurAt}
 use Rattle.mc_flash.specs.{Flash.{Content, is_blank, sectors_of, slot_text}, Geometry.{Geometry, trailer_sectors}, declared.op.Slot.{Slot}}
@@ -49,11 +50,15 @@ abbrev pub half_cell : Option (Slot × ℕ) → Cell
 half_cell (Some (slot, i)) = cells.Half slot i
 half_cell None = cells.Other
 
+-- A sector of a slot is one of its trailer.
+abbrev pub is_in_trailer : Geometry → Slot → ℕ → Bool
+is_in_trailer g slot i = nat_le (sectors_of g slot - trailer_sectors g) i
+
 -- A sector that holds neither nothing nor what one of the start did: one of the trailer; or one that begins with what one of the start
 -- began with, and is blank then; or anything else.
 abbrev pub other_cell : Geometry → Content → Slot → ℕ → List ℕ → Cell
 other_cell g start slot i bytes =
-    if nat_le (sectors_of g slot - trailer_sectors g) i then cells.Trailer else half_cell (origin_of g start (take (used bytes) bytes))
+    if is_in_trailer g slot i then cells.Trailer else half_cell (origin_of g start (take (used bytes) bytes))
 
 abbrev pub held_or : Option (Slot × ℕ) → Cell → Cell
 held_or (Some (slot, i)) rest = cells.Held slot i
@@ -62,6 +67,14 @@ held_or None rest = rest
 -- What lies in a sector of a slot.
 unfoldable pub cell_of : Geometry → Content → Slot → ℕ → List ℕ → Cell
 cell_of g start slot i bytes = if is_blank bytes then cells.Blank else held_or (origin_of g start bytes) (other_cell g start slot i bytes)
+
+-- The same where no start is known.
+abbrev pub plain_cell : Geometry → Slot → ℕ → List ℕ → Cell
+plain_cell g slot i bytes = if is_blank bytes then cells.Blank else if is_in_trailer g slot i then cells.Trailer else cells.Other
+
+abbrev pub cell_by : Geometry → Option Content → Slot → ℕ → List ℕ → Cell
+cell_by g (Some start) slot i bytes = cell_of g start slot i bytes
+cell_by g None slot i bytes = plain_cell g slot i bytes
 
 abbrev pub letter : Slot → List ℕ
 letter Primary = codes "a"

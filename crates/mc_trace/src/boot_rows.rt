@@ -7,7 +7,7 @@ ghost use Rattle.mc_explore.specs.inner.OneRound.{begun_of};
 ghost use Rattle.mc_start.specs.Start.{begun};
 ghost use Rattle.mc_trace.specs.inner.Boots.{WritesText};
 ghost use Rattle.mc_trace.specs.inner.Rows.{IsReady, IsRowHere, length_to, model_of, row_shown};
-ghost use Rattle.mc_trace.specs.Picture.{after_row, before_row, boot_rows, group_begin, group_end, grouped_text, is_erase};
+ghost use Rattle.mc_trace.specs.Picture.{after_row, before_row, boot_rows, group_begin, group_end, grouped_text, is_erase, opens, seen_text};
 
 use crate::error::TraceError;
 use crate::picture_rows::{Look, Row, write_row};
@@ -44,6 +44,13 @@ fn is_erase(op: Op) -> bool
     ensures { result ≡ is_erase op }
 {
     matches!(op, Op::Erase(..))
+}
+
+// Whether a row is seen, and begins a group.
+fn opens(look: &Look, row: &Row) -> bool
+    ensures { result ≡ opens look.now row.now.number row.now.op }
+{
+    look.span.has(row.number) && is_erase(row.op)
 }
 
 // What ends the group that is open, if one is.
@@ -89,7 +96,29 @@ fn write_before<W: Write>(
     Ok(())
 }
 
-// Writes a row, and what stands before and after it.
+// Writes a row that is seen, and what stands before and after it.
+fn write_seen<F: Flash, W: Write>(
+    flash: &F,
+    start: &Start,
+    look: &Look,
+    inside: bool,
+    row: &Row,
+    writer: &mut W,
+) -> Result<(), TraceError>
+    requires { (F.seen flash.now).geometry ≡ start.now.geometry }
+    ensures written { WritesText result (W.contents writer.old) (W.contents writer.new)
+        (seen_text look.now start.now.geometry start.now.content inside
+        (row_shown row.now (F.seen flash.now).content)) }
+    ensures err { IfErr result (λ e. e ≡ TraceError.Write) }
+{
+    let begins = is_erase(row.op);
+    write_before(look, inside, begins, writer)?;
+    write_row(flash, start, look, row, writer)?;
+    write_text(writer, after_row(begins).as_bytes())?;
+    Ok(())
+}
+
+// Writes a row, if it is seen.
 fn write_grouped<F: Flash, W: Write>(
     flash: &F,
     start: &Start,
@@ -104,11 +133,11 @@ fn write_grouped<F: Flash, W: Write>(
         (row_shown row.now (F.seen flash.now).content)) }
     ensures err { IfErr result (λ e. e ≡ TraceError.Write) }
 {
-    let begins = is_erase(row.op);
-    write_before(look, inside, begins, writer)?;
-    write_row(flash, start, look, row, writer)?;
-    write_text(writer, after_row(begins).as_bytes())?;
-    Ok(())
+    if look.span.has(row.number) {
+        write_seen(flash, start, look, inside, row, writer)
+    } else {
+        Ok(())
+    }
 }
 
 // Up to which operation of a boot rows are shown: the one before which it is cut, that one too, or all.
@@ -151,7 +180,7 @@ pub fn write_boot_rows<F: Flash, W: Write>(
         go_to_child(walk, number)?;
         let row = row_here(walk, cut);
         write_grouped(walk.flash(), start, look, inside, &row, writer)?;
-        inside |= is_erase(row.op);
+        inside |= opens(look, &row);
     }
     write_text(writer, group_end(inside).as_bytes())?;
     Ok(())

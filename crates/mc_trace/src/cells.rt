@@ -1,7 +1,7 @@
 //! What lies in a sector of a flash.
 ghost use Rattle.std.specs.Prelude.{◌≡◌, ◌<◌, ◌≤◌, ◌+◌, ◌++◌, decimal, length};
 ghost use Rattle.mc_flash.specs.Flash.{sectors_of, size_of};
-ghost use Rattle.mc_trace.specs.Sectors.{cell_of, cell_word, first_like, letter, origin_of, other_cell, sector_of, used};
+ghost use Rattle.mc_trace.specs.Sectors.{cell_of, cell_word, first_like, is_in_trailer, letter, origin_of, other_cell, plain_cell, sector_of, used};
 
 use mc_explore::Start;
 use mc_flash::{Layout, Slot, blank};
@@ -83,18 +83,23 @@ fn used(bytes: &[u8]) -> usize
     count
 }
 
+// Whether a sector of a slot is one of its trailer.
+fn is_in_trailer(layout: &Layout, slot: Slot, sector: u32) -> bool
+    ensures { result ≡ is_in_trailer layout.now slot sector }
+{
+    sector
+        >= layout
+            .sectors(slot)
+            .saturating_sub(layout.trailer_sectors())
+}
+
 // What lies in a sector that is neither blank nor as one of the start was.
 fn other_cell(start: &Start, at: (Slot, u32), bytes: &[u8]) -> Cell
     requires { length bytes.now ≡ start.now.geometry.sector }
     ensures { result ≡ other_cell start.now.geometry start.now.content at.0 at.1 bytes.now }
 {
     let (slot, sector) = at;
-    let layout = start.layout();
-    if sector
-        >= layout
-            .sectors(slot)
-            .saturating_sub(layout.trailer_sectors())
-    {
+    if is_in_trailer(start.layout(), slot, sector) {
         return Cell::Trailer;
     }
     match origin_of(start, &bytes[..used(bytes)]) {
@@ -115,6 +120,20 @@ pub fn cell_of(start: &Start, at: (Slot, u32), bytes: &[u8]) -> Cell
     match origin_of(start, bytes) {
         Some((slot, sector)) => Cell::Held(slot, sector),
         None => other_cell(start, at, bytes),
+    }
+}
+
+/// What lies in a sector of a slot that holds these bytes, where no start is known. It takes no memory.
+pub(crate) fn plain_cell(layout: &Layout, at: (Slot, u32), bytes: &[u8]) -> Cell
+    ensures { result ≡ plain_cell layout.now at.0 at.1 bytes.now }
+{
+    let (slot, sector) = at;
+    if blank(bytes) {
+        Cell::Blank
+    } else if is_in_trailer(layout, slot, sector) {
+        Cell::Trailer
+    } else {
+        Cell::Other
     }
 }
 

@@ -2,10 +2,11 @@
 ghost use Rattle.std.specs.Prelude.{◌≡◌, ◌+◌, ◌-◌, ◌≤◌, ◌<◌, ◌^◌, ◌++◌, length, OnOk, string_bytes};
 ghost use Rattle.mc_flash.specs.Flash.{sectors_of, size_of};
 ghost use Rattle.mc_flash.specs.declared.op.Slot.TheVariants.{Primary, Secondary};
-ghost use Rattle.mc_trace.specs.Hints.{entry_span, entries_text, hints_text, magic_text, magics_text, makes_layout, numbers_text, written_span};
+ghost use Rattle.mc_trace.specs.Hints.{entry_span, entries_text, hints_text, magic_text, magics_text, makes_layout, numbers_text, order_text, progress, shifted_text, written_span};
 
 use crate::cells::sector_of;
-use mc_flash::{Layout, Slot};
+use mc_boot::image_in;
+use mc_flash::{Layout, Slot, blank};
 use mc_output::{Line, MOST_LINE};
 use mc_trailer::{Field, MAGIC, place};
 use std::alloc::AllocError;
@@ -44,7 +45,8 @@ fn push_magics(
     Ok(())
 }
 
-// How many bytes at the end begin with 1, and are each 1 or 0xff: a written status entry and all that stands after it.
+// How many bytes at the end begin with the value of a status entry, and are each such a value or 0xff: a written entry and all that
+// stands after it.
 #[tactic(auto, using(crate::proofs::Hinted::last_other))]
 fn entry_span(bytes: &[u8]) -> usize
     ensures value { result ≡ entry_span bytes.now }
@@ -53,7 +55,7 @@ fn entry_span(bytes: &[u8]) -> usize
     let mut span = 0;
     for start in (0..bytes.len()).rev() {
         match bytes[start] {
-            1 => span = bytes.len() - start,
+            1 | 2 | 3 => span = bytes.len() - start,
             0xff => {}
             _ => return span,
         }
@@ -110,8 +112,48 @@ fn written_span(layout: &Layout, bytes: &[u8]) -> u32
     entry_span(&bytes[..fields]) as u32
 }
 
-/// Appends a line for each sector that ends in a good magic, but is not the last of its slot; and one for each unit and number of
-/// sectors that make a layout in which the first written status entry is the first of all, where in this layout it is not.
+// The status entries of a slot with these bytes, and swap-size after them.
+fn progress<'a>(layout: &Layout, slot: Slot, bytes: &'a [u8]) -> &'a [u8]
+    requires { length bytes.now ≡ size_of layout.now slot }
+    ensures { result.now ≡ progress layout.now slot bytes.now }
+{
+    let end = place(layout, slot, Field::SwapInfo) as usize;
+    let first = layout.size(slot).saturating_sub(layout.trailer_bytes()) as usize;
+    &bytes[first..end]
+}
+
+// The hint that the secondary holds what a boot writes in the primary alone, and the primary does not.
+fn order_hint(layout: &Layout, primary: &[u8], secondary: &[u8]) -> &'static str
+    requires primary { length primary.now ≡ size_of layout.now Primary }
+    requires secondary { length secondary.now ≡ size_of layout.now Secondary }
+    ensures { result.now ≡ order_text layout.now primary.now secondary.now }
+{
+    let written = !blank(progress(layout, Slot::Secondary, secondary));
+    if blank(progress(layout, Slot::Primary, primary)) && written {
+        "hint slots in the wrong order\n"
+    } else {
+        ""
+    }
+}
+
+// The hint that the image of the secondary begins in its second sector.
+fn shifted_hint(layout: &Layout, secondary: &[u8]) -> &'static str
+    requires { length secondary.now ≡ size_of layout.now Secondary }
+    ensures { result.now ≡ shifted_text layout.now secondary.now }
+{
+    // It gives the prover how many bytes a slot has.
+    let _size = layout.size(Slot::Secondary);
+    let second = &secondary[layout.sector() as usize..];
+    if image_in(secondary, &[]).is_none() && image_in(second, &[]).is_some() {
+        "hint image secondary 1\n"
+    } else {
+        ""
+    }
+}
+
+/// Appends what hints that a layout does not fit a flash, or that its slots are not in order, a line each: each good magic that is not
+/// that of its slot; each unit and number of sectors that make a layout in which the first written status entry is the first of all, where in
+/// this layout it is not; that the secondary holds what a boot writes in the primary alone; and that its image begins in its second sector.
 pub fn push_hints(
     text: &mut String,
     layout: &Layout,
@@ -127,5 +169,7 @@ pub fn push_hints(
     push_magics(text, layout, Slot::Secondary, secondary)?;
     let span = written_span(layout, primary);
     text.push_str(entries_line(layout, span).as_str())?;
+    text.push_str(order_hint(layout, primary, secondary))?;
+    text.push_str(shifted_hint(layout, secondary))?;
     Ok(())
 }

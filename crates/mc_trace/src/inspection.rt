@@ -1,20 +1,22 @@
-//! A flash explained: its trailers, what the slots hold, what lies in each sector, and what the boot from there does.
-ghost use Rattle.std.specs.Prelude.{◌≡◌, ◌+◌, ◌≤◌, ◌^◌, ◌++◌, ◌⊎◌, length, IfErr, IfOk, IfSome, IsErrOf, OnOk, string_bytes};
+//! A flash explained: what it comes to, its trailers, what the slots hold, what lies in each sector, and what the boot from there does.
+ghost use Rattle.std.specs.Prelude.{◌≡◌, ◌+◌, ◌≤◌, ◌^◌, ◌++◌, ◌⊎◌, length, IfErr, IfOk, IfSome, IsErrOf, OnOk, Some, option_map, string_bytes};
 ghost use Rattle.std.specs.Io.KnownBytes.{Appends, Keeps};
+ghost use Rattle.mc_boot.specs.Outcome.{outcome_of, shown};
 ghost use Rattle.mc_flash.specs.Flash.{CanTry, size_of};
 ghost use Rattle.mc_output.specs.Text.{AppendsPrefix};
 ghost use Rattle.mc_start.specs.Start.{begun};
-ghost use Rattle.mc_trace.specs.Inspection.{asked_text, boot_text, both_text, fault_text, first_text, held_text, image_text, inspection_text, none_text, sectors_text, trailers_text};
+ghost use Rattle.mc_trace.specs.Hints.{hints_text};
+ghost use Rattle.mc_trace.specs.Inspection.{asked_text, boot_text, both_text, bytes_text, fault_text, first_text, head_text, held_text, image_text, inspection_text, none_text, both_slots_text, trailers_text};
 ghost use Rattle.mc_image.specs.Valid.{id_of, image_fault};
 
-use crate::cells::Words;
 use crate::error::TraceError;
 use crate::hints::push_hints;
 use crate::operation::put_operation;
-use crate::sectors::push_slot;
-use mc_boot::{Boot, image_in};
+use crate::slot_words::push_sectors;
+use crate::verdict::verdict_line;
+use mc_boot::{Boot, Outcome, image_in};
 use mc_explore::{Schedule, Start, replay};
-use mc_flash::{Flash, Layout, Op, Slot};
+use mc_flash::{Flash, Layout, Op, Slot, blank};
 use mc_image::{ImageError, ImageView};
 use mc_output::{Line, MOST_LINE, write_text};
 use mc_trailer::{Profile, Trailer, resumes, swap_type};
@@ -115,6 +117,20 @@ fn put_held(line: &mut Line, bytes: &[u8])
     }
 }
 
+// Adds what a slot with these bytes holds, or that it is blank: at most 119 bytes.
+fn put_bytes(line: &mut Line, bytes: &[u8])
+    requires room { length line.old + 119 ≤ MOST_LINE }
+    requires size { length bytes.now ≤ 2 ^ 24 }
+    ensures text { line.new ≡ line.old ++ bytes_text bytes.now }
+    ensures length { length line.new ≤ length line.old + 119 }
+{
+    if blank(bytes) {
+        line.put("blank");
+    } else {
+        put_held(line, bytes);
+    }
+}
+
 // What a slot with these bytes holds.
 #[tactic(auto, unfolding(crate::specs::Inspection::image_text))]
 fn image_line(layout: &Layout, slot: Slot, bytes: &[u8]) -> Line
@@ -127,7 +143,7 @@ fn image_line(layout: &Layout, slot: Slot, bytes: &[u8]) -> Line
     line.put("image ");
     line.put(slot.name());
     line.put(" ");
-    put_held(&mut line, bytes);
+    put_bytes(&mut line, bytes);
     line.put("\n");
     line
 }
@@ -146,23 +162,6 @@ fn first_line(layout: &Layout, op: Option<Op>) -> Line
     line
 }
 
-// Appends what lies in the sectors of a slot with these bytes, by what lies in those of a named flash.
-#[tactic(auto, unfolding(crate::specs::Inspection::sectors_text))]
-fn push_sectors(
-    alloc: Global,
-    text: &mut String,
-    named: &Start,
-    slot: Slot,
-    bytes: &[u8],
-) -> Result<(), AllocError>
-    requires { length bytes.now ≡ size_of named.now.geometry slot }
-    ensures { OnOk result (string_bytes text.new ≡ string_bytes text.old
-        ++ sectors_text named.now.geometry named.now.content slot bytes.now) }
-{
-    text.push_str("sectors ")?;
-    push_slot(alloc, text, named, Words::All, slot, bytes)
-}
-
 // A flash of a start, with room for one boot.
 fn load_flash<F: Flash>(alloc: Global, start: &Start) -> Result<F, TraceError>
     ensures flash { IfOk result (λ flash. ((F.seen flash).geometry ≡ start.now.geometry)
@@ -179,9 +178,67 @@ fn load_flash<F: Flash>(alloc: Global, start: &Start) -> Result<F, TraceError>
     )?)
 }
 
+// The outcome of the boot from a flash.
+fn outcome_from<F: Flash>(alloc: Global, start: &Start) -> Result<Outcome, TraceError>
+    ensures outcome { IfOk result (λ o. outcome_of (begun start.now) ≡ Some (shown o)) }
+    ensures err { IfErr result (λ e. e ≡ TraceError.Memory) }
+{
+    match replay::<F>(alloc, start, &Schedule::new()) {
+        Ok((outcome, _)) => Ok(outcome),
+        Err(_) => Err(TraceError::Memory),
+    }
+}
+
+// Appends the verdict, both trailers, and the hints.
+fn push_head<F: Flash>(
+    alloc: Global,
+    text: &mut String,
+    start: &Start,
+    outcome: &Outcome,
+) -> Result<(), TraceError>
+    requires { outcome_of (begun start.now) ≡ Some (shown outcome.now) }
+    ensures text { OnOk result (string_bytes text.new ≡ string_bytes text.old
+        ++ head_text (begun start.now) (hints_text start.now.geometry start.now.content.primary
+        start.now.content.secondary)) }
+    ensures err { IfErr result (λ e. e ≡ TraceError.Memory) }
+{
+    let (primary, secondary) = (start.primary(), start.secondary());
+    let flash = load_flash::<F>(alloc, start)?;
+    let mut hints = String::new(alloc);
+    push_hints(&mut hints, start.layout(), primary, secondary)?;
+    let image = image_in(primary, &[]);
+    let verdict = verdict_line(start.layout(), hints.as_str(), &image, outcome);
+    text.push_str(verdict.as_str())?;
+    text.push_str(trailers_line(&flash, start.rules().profile).as_str())?;
+    text.push_str(hints.as_str())?;
+    Ok(())
+}
+
+// Appends what the slots hold, and what lies in their sectors.
+fn push_slots(text: &mut String, start: &Start, named: Option<&Start>) -> Result<(), AllocError>
+    requires { IfSome named (λ other. other.now.geometry ≡ start.now.geometry) }
+    ensures { OnOk result (string_bytes text.new ≡ string_bytes text.old ++ both_slots_text
+        start.now.geometry (option_map (λ other. other.now.content) named.entry)
+        start.now.content) }
+{
+    let (primary, secondary) = (start.primary(), start.secondary());
+    let layout = start.layout();
+    text.push_str(image_line(layout, Slot::Primary, primary).as_str())?;
+    text.push_str(image_line(layout, Slot::Secondary, secondary).as_str())?;
+    push_sectors(text, layout, named, Slot::Primary, primary)?;
+    push_sectors(text, layout, named, Slot::Secondary, secondary)?;
+    Ok(())
+}
+
 // Appends the first operation of the boot from a flash, and its outcome.
 #[tactic(auto, unfolding(crate::specs::Inspection::boot_text))]
-fn push_boot<F: Flash>(alloc: Global, text: &mut String, start: &Start) -> Result<(), TraceError>
+fn push_boot<F: Flash>(
+    alloc: Global,
+    text: &mut String,
+    start: &Start,
+    outcome: &Outcome,
+) -> Result<(), TraceError>
+    requires { outcome_of (begun start.now) ≡ Some (shown outcome.now) }
     ensures text { OnOk result (string_bytes text.new ≡ string_bytes text.old
         ++ boot_text (begun start.now)) }
     ensures err { IfErr result (λ e. e ≡ TraceError.Memory) }
@@ -189,9 +246,6 @@ fn push_boot<F: Flash>(alloc: Global, text: &mut String, start: &Start) -> Resul
     let flash = load_flash::<F>(alloc, start)?;
     let boot = Boot::cold(&flash, start.rules());
     text.push_str(first_line(start.layout(), boot.peek()).as_str())?;
-    let Ok((outcome, _)) = replay::<F>(alloc, start, &Schedule::new()) else {
-        return Err(TraceError::Memory);
-    };
     let mut line = Line::new();
     outcome.put_into(&mut line);
     text.push_str(line.as_str())?;
@@ -202,30 +256,26 @@ fn push_boot<F: Flash>(alloc: Global, text: &mut String, start: &Start) -> Resul
 fn inspection_of<F: Flash>(
     alloc: Global,
     start: &Start,
-    named: &Start,
+    named: Option<&Start>,
 ) -> Result<String, TraceError>
-    requires { named.now.geometry ≡ start.now.geometry }
-    ensures text { IfOk result (λ text. string_bytes text
-        ≡ inspection_text (begun start.now) named.now.content) }
+    requires { IfSome named (λ other. other.now.geometry ≡ start.now.geometry) }
+    ensures text { IfOk result (λ text. string_bytes text ≡ inspection_text (begun start.now)
+        (option_map (λ other. other.now.content) named.entry)) }
     ensures err { IfErr result (λ e. e ≡ TraceError.Memory) }
 {
-    let (primary, secondary) = (start.primary(), start.secondary());
-    let flash = load_flash::<F>(alloc, start)?;
+    let outcome = outcome_from::<F>(alloc, start)?;
     let mut text = String::new(alloc);
-    text.push_str(trailers_line(&flash, start.rules().profile).as_str())?;
-    push_hints(&mut text, start.layout(), primary, secondary)?;
-    text.push_str(image_line(start.layout(), Slot::Primary, primary).as_str())?;
-    text.push_str(image_line(start.layout(), Slot::Secondary, secondary).as_str())?;
-    push_sectors(alloc, &mut text, named, Slot::Primary, primary)?;
-    push_sectors(alloc, &mut text, named, Slot::Secondary, secondary)?;
-    push_boot::<F>(alloc, &mut text, start)?;
+    push_head::<F>(alloc, &mut text, start, &outcome)?;
+    push_slots(&mut text, start, named)?;
+    push_boot::<F>(alloc, &mut text, start, &outcome)?;
     Ok(text)
 }
 
-/// Explains the flash of a start, a line each: both trailers, whether a boot would go on with a swap that was cut, and the type that
-/// the swap tables give; hints where the layout does not fit; the valid image of each slot, or why it holds none; what lies in each sector of a slot, by what lies in those
-/// of a named flash of the same layout, with all words; the first operation of the boot from there, as a trace has it; and its
-/// outcome. The text is made in memory.
+/// Explains the flash of a start, a line each: what it comes to at one look; both trailers, whether a boot would go on with a swap that was cut, and
+/// the type that the swap tables give; hints where the layout or the dump does not fit; the valid image of each slot, or that it is
+/// blank, or why it holds none; what lies in each sector of a slot, by what lies in those of a named flash of the same layout, those that go on
+/// with one another as one, or where there is none by what is blank and what is the trailer's; the first operation of the boot from there, as a
+/// trace has it; and its outcome. The text is made in memory.
 ///
 /// # Errors
 ///
@@ -233,14 +283,15 @@ fn inspection_of<F: Flash>(
 pub fn write_inspection<F: Flash, W: Write>(
     alloc: Global,
     start: &Start,
-    named: &Start,
+    named: Option<&Start>,
     writer: &mut W,
 ) -> Result<(), TraceError>
-    requires { named.now.geometry ≡ start.now.geometry }
+    requires { IfSome named (λ other. other.now.geometry ≡ start.now.geometry) }
     ensures whole { OnOk result (Appends (W.contents writer.old) (W.contents writer.new)
-        (inspection_text (begun start.now) named.now.content)) }
+        (inspection_text (begun start.now) (option_map (λ other. other.now.content) named.entry))) }
     ensures prefix { IsErrOf result TraceError.Write → AppendsPrefix (W.contents writer.old)
-        (W.contents writer.new) (inspection_text (begun start.now) named.now.content) }
+        (W.contents writer.new) (inspection_text (begun start.now)
+        (option_map (λ other. other.now.content) named.entry)) }
     ensures none { IsErrOf result TraceError.Memory → writer.new ≡ writer.old }
     ensures err { IfErr result (λ e. (e ≡ TraceError.Memory) ⊎ (e ≡ TraceError.Write)) }
 {

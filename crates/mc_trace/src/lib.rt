@@ -17,8 +17,10 @@ mod picture_rows;
 mod runs;
 mod sections;
 mod sectors;
+mod slot_words;
 mod slots;
 mod trace;
+mod verdict;
 mod wear;
 
 pub use cells::Words;

@@ -11,6 +11,7 @@ use crate::error::TraceError;
 use crate::page::{HEAD, LEGEND};
 use crate::picture_rows::Look;
 use crate::sections::{pre_begin, write_sections};
+use crate::trace::Span;
 use mc_explore::{
     Census, Expectation, OneRound, Rights, Schedule, Start, census_line, load_walk, replay,
     rights_line, take_census, take_rights,
@@ -48,8 +49,8 @@ fn verdict_of<F: Flash>(
 }
 
 // How the page of a layout looks.
-fn look_for(layout: &Layout, expectation: &Expectation) -> Look
-    ensures { result ≡ look_for layout.now expectation.now }
+fn look_for(layout: &Layout, expectation: &Expectation, span: Span) -> Look
+    ensures { result ≡ look_for layout.now expectation.now span }
 {
     let (primary, secondary) = (
         layout.sectors(Slot::Primary),
@@ -58,6 +59,7 @@ fn look_for(layout: &Layout, expectation: &Expectation) -> Look
     Look {
         merges: u64::from(primary) + u64::from(secondary) > 24,
         expectation: *expectation,
+        span,
     }
 }
 
@@ -113,8 +115,8 @@ fn write_page<F: Flash, W: Write>(
 }
 
 /// Writes a page that a browser shows: what all schedules of at most 16 cuts come to, and how many of them are right; then for each boot
-/// of a schedule the rows of its operations up to the cut, each with the flash before it, cell by cell, what a cut there comes to, and
-/// whether that is right; and the outcome of the last boot. It loads a flash as an explorer does, and takes no memory for the text.
+/// of a schedule the rows of its operations up to the cut that lie in a span, each with the flash before it, cell by cell, what a cut there
+/// comes to, and whether that is right; and the outcome of the last boot. It loads a flash as an explorer does, and takes no memory for the text.
 ///
 /// # Errors
 ///
@@ -125,13 +127,14 @@ pub fn write_picture<F: Flash + Drop, W: Write>(
     start: &Start,
     schedule: &Schedule,
     expectation: &Expectation,
+    span: Span,
     writer: &mut W,
 ) -> Result<(), TraceError>
-    ensures drawn { OnOk result (Draws expectation.now (begun start.now) schedule.now
+    ensures drawn { OnOk result (Draws expectation.now span (begun start.now) schedule.now
         (W.contents writer.old) (W.contents writer.new)) }
     ensures begun { OnErr result ((W.contents writer.new ≡ W.contents writer.old)
-        ⊎ BeginsPicture expectation.now (begun start.now) schedule.now (W.contents writer.old)
-        (W.contents writer.new)) }
+        ⊎ BeginsPicture expectation.now span (begun start.now) schedule.now
+        (W.contents writer.old) (W.contents writer.new)) }
     ensures refused { IfErr result (RefusesTrace (begun start.now) schedule.now writer.old
         writer.new) }
     ensures occurs { OnOk result (CanOccur (begun start.now) schedule.now) }
@@ -141,7 +144,7 @@ pub fn write_picture<F: Flash + Drop, W: Write>(
     // Nothing is written of a schedule that can't occur.
     let _ = replay::<F>(alloc, start, schedule)?;
     let verdict = verdict_of::<F>(alloc, start, expectation)?;
-    let look = look_for(start.layout(), expectation);
+    let look = look_for(start.layout(), expectation, span);
     let boots = schedule.cuts().len() as u8 + 1;
     let mut walk: Walk<F, OneRound<'_>> = load_walk(alloc, start, boots, ())?;
     walk.begin()?;

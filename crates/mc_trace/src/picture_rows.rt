@@ -9,17 +9,19 @@ ghost use Rattle.mc_trace.specs.Trace.{operation_text};
 use crate::error::TraceError;
 use crate::operation::put_operation;
 use crate::runs::write_cells;
+use crate::trace::Span;
 use mc_boot::Outcome;
 use mc_explore::{Expectation, Labels, Start, put_outcome, put_slots};
 use mc_flash::{Flash, Op, Slot};
 use mc_output::{Line, MOST_LINE, write_line, write_text};
 use std::io::Write;
 
-/// How a page shows things: whether cells that go on with one another are one, and what is right.
+/// How a page shows things: whether cells that go on with one another are one, what is right, and which operations of a boot are seen.
 #[derive(Clone, Copy, Debug)]
 pub struct Look {
     pub merges: bool,
     pub expectation: Expectation,
+    pub span: Span,
 }
 
 /// What a row shows: an operation with its number, whether the power is cut before it, and what a cut there comes to.

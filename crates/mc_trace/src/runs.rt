@@ -2,7 +2,7 @@
 ghost use Rattle.std.specs.Prelude.{◌≡◌, ◌+◌, ◌<◌, ◌≤◌, ◌++◌, length, IfErr, IfOk};
 ghost use Rattle.mc_flash.specs.Flash.{sectors_of, size_of};
 ghost use Rattle.mc_trace.specs.inner.Boots.{WritesText};
-ghost use Rattle.mc_trace.specs.Picture.{cell_at, class_of, extent_text, frame_text, goes_on, is_again, is_target, next_run, rises_to, run_before, run_begin, run_of, run_text, sector_in, slot_cells, takes};
+ghost use Rattle.mc_trace.specs.Picture.{cell_at, class_of, extent_text, frame_text, goes_on, is_again, is_target, joins, next_run, one_more, rises_to, run_before, run_begin, run_of, run_text, sector_in, slot_cells, takes};
 
 use crate::cells::{Cell, Words, cell_of, sector_of};
 use crate::error::TraceError;
@@ -73,8 +73,8 @@ fn rises_to(first: Cell, count: u32, cell: Cell) -> bool
     }
 }
 
-// The sector of the start that a cell holds, or 0.
-fn sector_in(cell: Cell) -> u32
+/// The sector of the start that a cell holds, or 0.
+pub(crate) fn sector_in(cell: Cell) -> u32
     ensures { result ≡ sector_in cell }
 {
     match cell {
@@ -175,8 +175,8 @@ fn cell_at(
 }
 
 impl Run {
-    // A run of one cell.
-    fn of(cell: (Cell, bool)) -> Run
+    /// A run of one cell.
+    pub(crate) fn of(cell: (Cell, bool)) -> Run
         ensures { result ≡ run_of cell }
     {
         let (first, framed) = cell;
@@ -185,6 +185,25 @@ impl Run {
             count: 1,
             rises: false,
             framed,
+        }
+    }
+
+    /// Whether a cell joins it.
+    pub(crate) fn joins(&self, merges: bool, cell: (Cell, bool)) -> bool
+        ensures { result ≡ joins merges self.now cell }
+    {
+        merges && self.takes(cell.0, cell.1)
+    }
+
+    /// The run with one cell more.
+    pub(crate) fn with(&self, cell: Cell) -> Run
+        requires { self.now.count < 4294967295 }
+        ensures { result ≡ one_more self.now cell }
+    {
+        Run {
+            count: self.count + 1,
+            rises: !is_again(self.first, cell),
+            ..*self
         }
     }
 
@@ -201,13 +220,8 @@ impl Run {
             (run_before merges self.now cell) }
         ensures err { IfErr result (λ e. e ≡ TraceError.Write) }
     {
-        let (first, framed) = cell;
-        if merges && self.takes(first, framed) {
-            return Ok(Run {
-                count: self.count + 1,
-                rises: !is_again(self.first, first),
-                ..*self
-            });
+        if self.joins(merges, cell) {
+            return Ok(self.with(cell.0));
         }
         write_run(self, writer)?;
         Ok(Run::of(cell))

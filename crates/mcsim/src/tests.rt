@@ -10,6 +10,7 @@ mod layouts;
 mod lives;
 mod outfiles;
 mod pages;
+mod reasons;
 mod rights;
 mod rounds;
 mod sixteen;

@@ -161,7 +161,7 @@ static IMAGE: [Word; 1] = [Word {
 }];
 
 /// What gives an image.
-static CREATION: [Word; 7] = [
+static CREATION: [Word; 8] = [
     Word {
         name: "INFILE",
         required: true,
@@ -205,10 +205,16 @@ static CREATION: [Word; 7] = [
         help: "Add a protected security-counter entry, 0 to 4294967295",
         ..NUMBER
     },
+    Word {
+        name: "sha",
+        takes: Takes::OneOf("N", &["256", "auto"]),
+        help: "256, which each image has (or auto, the same)",
+        ..FLAG
+    },
 ];
 
 /// The slot that an image is made for.
-static SLOT: [Word; 5] = [
+static SLOT: [Word; 7] = [
     Word {
         name: "slot-size",
         short: Some('S'),
@@ -236,6 +242,20 @@ static SLOT: [Word; 5] = [
     Word {
         name: "confirm",
         help: "As --pad, and mark the image confirmed (image-ok)",
+        ..FLAG
+    },
+    Word {
+        name: "erased-val",
+        short: Some('R'),
+        takes: Takes::OneOf("V", &["0xff", "0xFF", "255"]),
+        help: "0xff, which an erased byte of each flash here holds",
+        ..FLAG
+    },
+    Word {
+        name: "endian",
+        short: Some('e'),
+        takes: Takes::OneOf("E", &["little"]),
+        help: "little, as each image here is",
         ..FLAG
     },
 ];
@@ -383,20 +403,22 @@ const SCHEDULE_IF_ANY: Word = Word {
     ..SCHEDULE
 };
 
+/// The first operation of each boot that is shown.
+const FROM: Word = Word {
+    name: "from",
+    help: "Leave out each boot's operations before that number, 0 to 4294967295",
+    ..NUMBER
+};
+
+/// The last one.
+const TO: Word = Word {
+    name: "to",
+    help: "Leave out each boot's operations after that number, 0 to 4294967295",
+    ..NUMBER
+};
+
 /// What gives a trace.
-static TRACE: [Word; 3] = [
-    SCHEDULE_IF_ANY,
-    Word {
-        name: "from",
-        help: "Leave out each boot's operations before that number, 0 to 4294967295",
-        ..NUMBER
-    },
-    Word {
-        name: "to",
-        help: "Leave out each boot's operations after that number, 0 to 4294967295",
-        ..NUMBER
-    },
-];
+static TRACE: [Word; 3] = [SCHEDULE_IF_ANY, FROM, TO];
 
 /// What gives a picture of the sectors.
 static SECTORS: [Word; 3] = [
@@ -541,7 +563,7 @@ static VERDICT: [Word; 4] = [
 ];
 
 /// What gives a page that shows the boots of a schedule.
-static PICTURE: [Word; 3] = [SCHEDULE_IF_ANY, EXPECT_PRIMARY, EXPECT_SECONDARY];
+static PICTURE: [Word; 5] = [SCHEDULE_IF_ANY, FROM, TO, EXPECT_PRIMARY, EXPECT_SECONDARY];
 
 /// Which flashes are written, and where.
 static VECTORS: [Word; 3] = [
@@ -675,7 +697,8 @@ const AFTER_PICTURE: &str = "\
 One HTML file with no script, for any browser: first what all schedules of at most 16 cuts come to and
 how many of them are right; then for each boot a row for each operation, with the sectors before it, what
 a cut there comes to and whether that is right; the outcome last. Right is a boot with both images where
-they belong; from a flash, with those that are expected, or any.
+they belong; from a flash, with those that are expected, or any. No more than 20,000 operations are drawn: of longer
+boots --from and --to say which.
 Example:
   mcsim picture [LAYOUT] [SOURCE] --schedule 9.4 > swap.html";
 
@@ -694,11 +717,12 @@ Example:
   mcsim vectors [LAYOUT] [SOURCE] --cuts all --dir cases --patches";
 
 const AFTER_INSPECT: &str = "\
-Lines: the trailers, and what they ask for, as type has them; where the layout does not fit, hint with
-the sector that ends in a magic, or with numbers by which the first status entry that is written
-would be the first of all; the image of each slot, or none and why; what lies in each sector, as
-sectors --words all has it: aN and bN are the sectors of the known images, where both are given, and
-else of the dump itself; the first operation of the boot from there, and its outcome; and what all
+Lines: a verdict on the next boot, or what it needs; the trailers, and what they ask for, as type has
+them; hint where the layout or the dump does not fit: a magic elsewhere, numbers by which the first
+status entry that is written would be the first of all, slots in the wrong order, an image that begins
+one sector up; the image of each slot, blank, or none and why; what lies in each sector, as sectors
+--words all has it, but with runs as a2..a116 and -x3: aN and bN are the sectors of the known images,
+where both are given; the first operation of the boot from there, and its outcome; and what all
 schedules of at most 16 cuts from there come to, as census has it.";
 
 const AFTER_LOCATE: &str = "\
@@ -738,7 +762,7 @@ const AFTER_CENSUS: &str = "\
 Seven lines: how many schedules of at most K power cuts can occur, how many of them have each RESULT
 (boot, none, panic, fault), the most operations of a last boot, and the first schedule whose result is
 not boot, or none. They are not listed, so that even K of 16 takes some hundredths of a second and a
-few megabytes, with the grain unit too.
+few megabytes, with the grain unit too; two rounds by units take a second or so.
 Where something is expected of the slots, two lines more: how many schedules boot with the expected
 images, and the first that does not. --all-right expects of two images the named one in the primary
 at the end and the other in the secondary; that takes a second census.
@@ -756,16 +780,18 @@ Rows come in this order: -, 1.0, 1.0,1.0, .., 1.0,2.0, .., 1.1, .., 2.0, 2.0,2.0
 With a verdict the rows are counted once more; see mcsim survey --help, --rounds 2.";
 
 const AFTER_LIFE: &str = "\
-Events, a line each; blank lines, and lines that begin with #, tell none. At the start the power is off:
+Events, a line each; blank lines, and what comes behind a #, tell none. At the start the power is off:
   boot [CUTS]              power-on, cut as a schedule says, and then left alone
   cut N                    power-on, cut after N operations
 While an image runs:
   download FILE [BYTES]    it erases the secondary and writes the file, or stops after so many bytes
+  write FILE FROM COUNT    it writes so many bytes of the file from there on where they belong, and erases nothing
   request test|perm        it writes the secondary's magic, and for perm image-ok
   store FILE               the secondary's bytes are those of the file
   erase N                  it erases a sector of the secondary
   confirm                  it confirms itself
   mark BYTES               a confirmation is torn: up to 8 bytes, as 01ff, stand at image-ok
+Numbers may be hexadecimal, as 0x200; a FILE with spaces in it stands in double quotes.
 A line for each event: its number, its words, for a boot RESULT TYPE OPS, then the primary's image, trial
 or settled, the secondary's image, and the type of the next boot:
   3 boot 9.4 boot test 5 2.0.0+0/80 trial 1.0.0+0/80 revert
@@ -929,7 +955,7 @@ static FLASHES: [Subcommand; 5] = [
         about: "Explain a dump of a device: trailers, images, sectors, what boots from there do",
         usage: Some("mcsim inspect <LAYOUT> --flash <FILE> [OPTIONS]"),
         after_help: Some(AFTER_INSPECT),
-        groups: &[Group::Layout, Group::Dump, Group::Rules],
+        groups: &[Group::Layout, Group::Dump, Group::Rules, Group::Verdict],
     },
     Subcommand {
         name: "locate",

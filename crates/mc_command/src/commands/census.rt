@@ -1,5 +1,5 @@
 //! `census`: what all schedules of power cuts, or all campaigns of two rounds, come to, without listing them.
-ghost use Rattle.std.specs.Prelude.{◌≡◌, ◌≤◌, List, IfOk, true};
+ghost use Rattle.std.specs.Prelude.{◌≡◌, ◌≤◌, List, IfOk, false, true};
 ghost use Rattle.mc_explore.specs.Census.{census_by};
 ghost use Rattle.mc_explore.specs.declared.expectation.Expectation.{Expectation as Expected};
 ghost use Rattle.clap.specs.Matches.{found_of};
@@ -35,7 +35,7 @@ pub struct Wanted<C: Copy> {
 
 /// What its rows come to.
 #[derive(Clone, Copy)]
-struct Counts<K> {
+pub struct Counts<K> {
     census: CensusOf<K>,
     // What of it is right, where that was asked.
     rights: Option<RightsOf<K>>,
@@ -92,12 +92,47 @@ pub fn read<X: Explorable, F: Files>(
     })
 }
 
+impl Wanted<()> {
+    /// That of all schedules of at most so many cuts from a dump.
+    pub fn of_dump(start: Start, cuts: u8, asked: Asked) -> Wanted<()>
+        ensures { result ≡ record {
+          start = start;
+          choice = tt;
+          back = false;
+          cuts = cuts;
+          asked = asked;
+        } }
+    {
+        Wanted {
+            start,
+            choice: (),
+            back: false,
+            cuts,
+            asked,
+        }
+    }
+
+    /// The start.
+    pub fn start(&self) -> &Start
+        ensures { result.now ≡ self.now.start }
+    {
+        &self.start
+    }
+
+    /// What is asked of each schedule.
+    pub fn asked(&self) -> &Asked
+        ensures { result.now ≡ self.now.asked }
+    {
+        &self.asked
+    }
+}
+
 /// What its rows come to.
 ///
 /// # Errors
 ///
 /// `Expectation`; `Explore` where memory failed.
-fn count<'a, X: OfStart<'a> + Countable>(
+pub fn count<'a, X: OfStart<'a> + Countable>(
     alloc: Global,
     wanted: &'a Wanted<X::Choice>,
 ) -> Result<Counts<X::Key>, Refusal>
@@ -128,9 +163,22 @@ pub fn run<'a, X: Explorable + OfStart<'a> + Countable, O: Write>(
     requires { wanted.now.cuts ≤ 16 }
 {
     let counts = count::<X>(alloc, wanted)?;
+    conclude::<X, O>(&counts, &wanted.asked, out)
+}
+
+/// Prints what rows come to, and gives the verdict on them.
+///
+/// # Errors
+///
+/// `Write`; those of `judge`.
+pub fn conclude<X: Explorable, O: Write>(
+    counts: &Counts<X::Key>,
+    asked: &Asked,
+    out: &mut O,
+) -> Result<(), Refusal> {
     write_census::<X, O>(&counts.census, out)?;
     write_lines::<X, O>(&counts.rights, out)?;
-    judge::<X>(&counts, &wanted.asked)
+    judge::<X>(counts, asked)
 }
 
 /// The verdict on the rows that were counted.

@@ -4,8 +4,10 @@ ghost use Rattle.clap.specs.Matches.{found_of};
 ghost use Rattle.mc_options.specs.Arguments.{GivesLayout, GivesRules};
 ghost use Rattle.mc_command.specs.Inspections.{IsFound, IsSwapOf, first_of, second_of};
 
+use crate::commands::census::{Wanted, conclude, count};
+use crate::verdict::Asked;
 use clap::ArgMatches;
-use mc_explore::{Kind, OneRound, Start, take_census, write_census};
+use mc_explore::{Kind, OneRound, Start};
 use mc_flash::{FlashError, JournalFlash, Layout};
 use mc_options::{
     GREATEST_FLASH, GREATEST_IMAGE, Refusal, kind_name, layout_options, read_file, required,
@@ -122,10 +124,10 @@ impl<'a> Dump<'a> {
     }
 }
 
-/// A dump, and the images that are known.
+/// The census of a dump that is to be taken, and the images that are known.
 #[derive(Drop)]
 struct Inspected {
-    start: Start,
+    wanted: Wanted<()>,
     images: Option<Images>,
 }
 
@@ -133,19 +135,26 @@ struct Inspected {
 ///
 /// # Errors
 ///
-/// Those of `Dump::named`, `Images::read` and `Dump::read`.
+/// Those of `Dump::named` and `Asked::read`; `NeverSwaps`; those of `Images::read` and `Dump::read`.
 fn read<F: Files>(
     files: &F,
     alloc: Global,
     arguments: &ArgMatches<'_>,
-) -> Result<Inspected, Refusal> {
+) -> Result<Inspected, Refusal>
+    ensures range { IfOk result (λ inspected. inspected.wanted.cuts ≤ 16) }
+{
     let dump = match Dump::named(arguments) {
         Ok(dump) => dump,
         Err(refusal) => return Err(refusal),
     };
+    let asked = Asked::read(arguments)?;
+    asked.check(&dump.layout)?;
     let images = Images::read(files, alloc, arguments)?;
     let start = dump.read(files, alloc)?;
-    Ok(Inspected { start, images })
+    Ok(Inspected {
+        wanted: Wanted::of_dump(start, MOST_CUTS, asked),
+        images,
+    })
 }
 
 /// Prints what a dump is, and its sectors by those of the known images, if they are given.
@@ -154,22 +163,24 @@ fn read<F: Files>(
 ///
 /// `Start` of the images; `Trace` for want of memory, or where the output fails.
 fn print<O: Write>(alloc: Global, inspected: &Inspected, out: &mut O) -> Result<(), Refusal> {
-    let start = &inspected.start;
+    let start = inspected.wanted.start();
     match &inspected.images {
         Some(images) => {
             let named = images.start_of(alloc, start.layout(), start.rules(), Kind::None)?;
-            Ok(write_inspection::<JournalFlash, O>(alloc, start, &named, out)?)
+            write_inspection::<JournalFlash, O>(alloc, start, Some(&named), out)?;
         }
-        None => Ok(write_inspection::<JournalFlash, O>(alloc, start, start, out)?),
+        None => write_inspection::<JournalFlash, O>(alloc, start, None, out)?,
     }
+    Ok(())
 }
 
-/// Explains a dump: its trailers, what its slots hold, its sectors by those of the known images if they are given, the boot from there, and
-/// what all schedules of at most 16 cuts come to. The words are checked before a file is touched.
+/// Explains a dump: a verdict on the next boot, its trailers, what its slots hold, its sectors by those of the known images if they are given,
+/// the boot from there, and what all schedules of at most 16 cuts come to. The words are checked before a file is touched.
 ///
 /// # Errors
 ///
-/// Those of `read` and `print`; `Explore` for want of memory; `Write`.
+/// Those of `read` and `print`; `Expectation`; `Explore` for want of memory; `Write`. Where a verdict on the schedules is asked also
+/// `NotAllBoot` and `NotAllRight`; the output is written then.
 pub fn run<F: Files, O: Write>(
     files: &F,
     alloc: Global,
@@ -178,9 +189,9 @@ pub fn run<F: Files, O: Write>(
 ) -> Result<(), Refusal> {
     let inspected = read(files, alloc, arguments)?;
     // Before anything is written, so that want of memory leaves no beginning.
-    let census = take_census::<JournalFlash, OneRound>(alloc, &inspected.start, MOST_CUTS, ())?;
+    let counts = count::<OneRound>(alloc, &inspected.wanted)?;
     print(alloc, &inspected, out)?;
-    Ok(write_census::<OneRound, O>(&census, out)?)
+    conclude::<OneRound, O>(&counts, inspected.wanted.asked(), out)
 }
 
 /// A swap, and where a flash occurs in it.

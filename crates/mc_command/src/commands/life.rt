@@ -1,10 +1,11 @@
 //! `life`: what happens to a device, replayed event by event.
 use super::replay::write_file;
 use clap::ArgMatches;
+use mc_cli::WatchedFiles;
 use mc_explore::{Kind, Start};
 use mc_flash::{Layout, Slot, SnapFlash};
 use mc_imgtool::ToolError;
-use mc_life::{Device, File, Script, find, replay_life, write_wear};
+use mc_life::{Device, File, LifeError, Script, find, replay_life, write_wear};
 use mc_options::{
     GREATEST_FLASH, GREATEST_IMAGE, Refusal, check_outputs, is_same_file, layout_options,
     read_file, rules_options,
@@ -158,22 +159,39 @@ fn read<F: Files, R: Read>(
     })
 }
 
-/// Prints a line for each event, and what was erased where that is asked; and gives the device as it is at the end.
+/// Prints a line for each event, and what was erased where that is asked; and gives the device as it is at the end. The line of an event
+/// that can't happen is remembered.
 ///
 /// # Errors
 ///
 /// `Life` with the first event that can't happen: all before it is printed; `Write`.
-fn print<O: Write>(
+fn print<F: Files, O: Write>(
+    files: &WatchedFiles<'_, F>,
     life: &Life,
     alloc: Global,
     with_wear: bool,
     out: &mut O,
 ) -> Result<Device<SnapFlash>, Refusal> {
-    let device = replay_life(alloc, &life.start, &life.script, &life.shelf, out)?;
+    let device = match replay_life(alloc, &life.start, &life.script, &life.shelf, out) {
+        Ok(device) => device,
+        Err(error) => {
+            if let LifeError::Refused(_, _, number) = error
+                && let Some(line) = line_at(&life.script, number)
+            {
+                files.keep_line(line);
+            }
+            return Err(Refusal::Life(error));
+        }
+    };
     if with_wear {
         write_wear(device.wear(), out).map_err(|_| Refusal::Write)?;
     }
     Ok(device)
+}
+
+/// The line of a script of that number, counted from 1.
+fn line_at(script: &Script, number: u32) -> Option<&str> {
+    script.text().lines().nth(number.checked_sub(1)? as usize)
 }
 
 /// Replays what happens to a device by a script, a line for each event. With `--wear` it ends with two lines of what was erased,
@@ -183,14 +201,14 @@ fn print<O: Write>(
 ///
 /// What refuses the words or their files; `Script`; those of `print`; `Open` and `Write` of the file.
 pub fn run<F: Files, R: Read, O: Write>(
-    files: &F,
+    files: &WatchedFiles<'_, F>,
     alloc: Global,
     arguments: &ArgMatches<'_>,
     input: &mut R,
     out: &mut O,
 ) -> Result<(), Refusal> {
     let life = read(files, alloc, arguments, input)?;
-    let device = print(&life, alloc, arguments.get_flag("wear"), out)?;
+    let device = print(files, &life, alloc, arguments.get_flag("wear"), out)?;
     match arguments.get_str("out") {
         Some(path) => write_file(files, alloc, path, device.flash()),
         None => Ok(()),

@@ -1,5 +1,6 @@
 //! `picture`: a page that shows the boots of a schedule.
-ghost use Rattle.std.specs.Prelude.{IfOk};
+ghost use Rattle.std.specs.Prelude.{◌≡◌, ◌<◌, ◌≤◌, ◌+◌, ◌*◌, ◌^◌, IfOk, MatchResult, length};
+ghost use Rattle.mc_command.specs.Pictures.{rows_in, within};
 ghost use Rattle.mc_start.specs.Start.{begun};
 ghost use Rattle.mc_trace.specs.Picture.{Draws};
 
@@ -7,20 +8,61 @@ use super::{finish, in_blocks};
 use crate::commands::schedule::{Scheduled, read_schedule};
 use crate::verdict::Ends;
 use clap::ArgMatches;
-use mc_explore::Expectation;
+use mc_explore::{Expectation, replay};
 use mc_flash::JournalFlash;
-use mc_options::Refusal;
-use mc_trace::write_picture;
+use mc_options::{Refusal, span_options};
+use mc_trace::{Span, write_picture};
 use std::alloc::Global;
 use std::io::Write;
 use std::rt::Files;
 
-/// Prints a page that shows the boots which a schedule cuts and the last boot, operation by operation, and what all schedules of at
-/// most 16 cuts come to.
+/// The most operations that a picture shows.
+const MOST_ROWS: u64 = 20_000;
+
+/// How many of the first so many numbers lie in a span.
+fn within(span: Span, count: u64) -> u64
+    ensures value { result ≡ within span count }
+    ensures at_most { result ≤ count }
+{
+    let end = count.min(u64::from(span.to) + 1);
+    end.saturating_sub(u64::from(span.from))
+}
+
+/// How many operations are seen of the boots that are cut, each up to its cut, and of the last one, which has so many.
+fn rows_in(span: Span, cuts: &[u32], last: u32) -> u64
+    requires { length cuts.now ≤ 16 }
+    ensures value { result ≡ rows_in span cuts.now last }
+    ensures at_most { result ≤ (length cuts.now + 1) * 2 ^ 32 }
+{
+    let Some((cut, rest)) = cuts.split_first() else {
+        return within(span, u64::from(last));
+    };
+    within(span, u64::from(*cut) + 1) + rows_in(span, rest, last)
+}
+
+/// Looks whether a picture shows no more operations than a browser can.
 ///
 /// # Errors
 ///
-/// What `Ends::read` and `read_schedule` refuse; those of `draw`.
+/// `LargePicture`.
+fn check_rows(span: Span, cuts: &[u32], last: u32) -> Result<(), Refusal>
+    requires { length cuts.now ≤ 16 }
+    ensures { MatchResult result (λ _. rows_in span cuts.now last ≤ 20000)
+        (λ e. (20000 < rows_in span cuts.now last) × (e ≡ Refusal.LargePicture)) }
+{
+    if rows_in(span, cuts, last) > MOST_ROWS {
+        return Err(Refusal::LargePicture);
+    }
+    Ok(())
+}
+
+/// Prints a page that shows the boots which a schedule cuts and the last boot, operation by operation, those in a span, and what all schedules
+/// of at most 16 cuts come to.
+///
+/// # Errors
+///
+/// What `Ends::read`, `span_options` and `read_schedule` refuse; `Replay` where a cut can't occur, or for want of memory; `LargePicture` where it
+/// would show more than 20,000 operations; those of `draw`.
 pub fn run<F: Files, O: Write>(
     files: &F,
     alloc: Global,
@@ -28,9 +70,12 @@ pub fn run<F: Files, O: Write>(
     out: &mut O,
 ) -> Result<(), Refusal> {
     let ends = Ends::read(arguments)?;
+    let span = span_options(arguments)?;
     let given = read_schedule(files, alloc, arguments)?;
+    let (outcome, _) = replay::<JournalFlash>(alloc, &given.start, &given.schedule)?;
+    check_rows(span, given.schedule.cuts(), outcome.ops)?;
     let expectation = ends.expectation(given.start.named());
-    draw(alloc, &given, &expectation, out)?;
+    draw(alloc, &given, &expectation, span, out)?;
     Ok(())
 }
 
@@ -43,9 +88,10 @@ fn draw<O: Write + Drop>(
     alloc: Global,
     given: &Scheduled,
     expectation: &Expectation,
+    span: Span,
     out: O,
 ) -> Result<O, Refusal>
-    ensures { IfOk result (λ written. Draws expectation.now (begun given.now.start)
+    ensures { IfOk result (λ written. Draws expectation.now span (begun given.now.start)
         given.now.schedule (O.contents out) (O.contents written)) }
 {
     let mut blocks = in_blocks(alloc, out)?;
@@ -54,6 +100,7 @@ fn draw<O: Write + Drop>(
         &given.start,
         &given.schedule,
         expectation,
+        span,
         &mut blocks,
     )?;
     Ok(finish(blocks)?)

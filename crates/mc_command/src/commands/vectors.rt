@@ -200,7 +200,7 @@ impl<F: Files> Folder<'_, '_, F> {
         name.put_hex(digest);
         name.put(if self.patches { ".patch" } else { ".bin" });
         let path = self.inside(name.as_str())?;
-        let mut outfile = Outfile::beside(self.files, self.alloc, path.as_str())?;
+        let mut outfile = Outfile::in_new_folder(self.files, self.alloc, path.as_str())?;
         let written = self.write_bytes(start, flash, &mut outfile.file);
         outfile.end(written)
     }
@@ -234,7 +234,7 @@ impl<F: Files> Folder<'_, '_, F> {
         }
         self.write_flashes(start, cases)?;
         let path = self.inside("cases.tsv")?;
-        let mut outfile = Outfile::beside(self.files, self.alloc, path.as_str())?;
+        let mut outfile = Outfile::in_new_folder(self.files, self.alloc, path.as_str())?;
         let written = match print_table(self.alloc, cases, &mut outfile.file) {
             Ok(_) => Ok(()),
             Err(refusal) => Err(refusal),
@@ -249,7 +249,7 @@ impl<F: Files> Folder<'_, '_, F> {
     /// `Open` where its file cannot be made; `Write`; `Memory`.
     fn write_start(&self, start: &Start) -> Result<(), Refusal> {
         let path = self.inside("start.bin")?;
-        let mut outfile = Outfile::beside(self.files, self.alloc, path.as_str())?;
+        let mut outfile = Outfile::in_new_folder(self.files, self.alloc, path.as_str())?;
         let primary = outfile.file.write_all(start.primary());
         let written = primary.and_then(|_| outfile.file.write_all(start.secondary()));
         outfile.end(written.map_err(|_| Refusal::Write))

@@ -134,7 +134,7 @@ fn rows_of(line: &str, whole: &[u8]) -> usize {
 
 /// How a command line ends with that file `in` and a standard output that fails after so many bytes: its status, what it says of it,
 /// and what is out.
-fn ends_after(
+pub fn ends_after(
     rt: &impl Abort,
     alloc: Global,
     line: &str,

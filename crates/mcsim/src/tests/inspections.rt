@@ -5,13 +5,14 @@ use super::support::{Table, all_play};
 /// torn; one whose first status entry is that of a trailer with fewer sectors, with a magic at the end of another sector.
 const INSPECTED: &str = "\
 $ inspect WORKED --flash in --known-a first --known-b second < 1792:0=first,1024=second,1776=MAGIC
+verdict boots
 trailer primary UNSET
 trailer secondary magic=good image-ok=unset copy-done=unset swap-info=0xff swap-size=4294967295
 resume no
 table test
 image primary FIRST
 image secondary SECOND
-sectors primary a0 - - -
+sectors primary a0 -x3
 sectors secondary b0 - t
 first erase primary 3
 result boot
@@ -27,13 +28,14 @@ fault 0
 most-ops 18
 first-not-boot none
 $ inspect WORKED --grain unit --profile 2 --flash in --known-a first --known-b second < TORN
+verdict boots
 trailer primary magic=good image-ok=unset copy-done=set swap-info=0xff swap-size=4294967295
 trailer secondary magic=bad image-ok=unset copy-done=unset swap-info=0xff swap-size=4294967295
 resume no
 table revert
 image primary SECOND
 image secondary FIRST
-sectors primary b0 - - t
+sectors primary b0 -x2 t
 sectors secondary a0 - t
 first erase secondary 2
 result boot
@@ -49,14 +51,15 @@ fault 0
 most-ops 115
 first-not-boot none
 $ inspect WORKED --flash in < 1792:0=first,79=00
+verdict no image
 trailer primary UNSET
 trailer secondary UNSET
 resume no
 table none
 image primary none E12 WrongDigest
-image secondary none E2 BadMagic
-sectors primary a0 - - -
-sectors secondary - - -
+image secondary blank
+sectors primary * -x3
+sectors secondary -x3
 first none
 result none
 type none
@@ -71,7 +74,8 @@ panic 0
 fault 0
 most-ops 0
 first-not-boot -
-$ inspect --sector 256 --unit 8 --max-sectors 5 --chunk 128 --primary 4 --secondary 3 --flash in < 1792:752=MAGIC,880=01
+$ inspect --sector 256 --unit 8 --max-sectors 5 --chunk 128 --primary 4 --secondary 3 --flash in < 1792:752=MAGIC,880=03
+verdict needs another layout or another dump
 trailer primary UNSET
 trailer secondary UNSET
 resume no
@@ -82,9 +86,9 @@ hint --unit 2 --max-sectors 16
 hint --unit 4 --max-sectors 8
 hint --unit 8 --max-sectors 4
 image primary none E2 BadMagic
-image secondary none E2 BadMagic
-sectors primary - - a2 a3
-sectors secondary - - -
+image secondary blank
+sectors primary -x2 * t
+sectors secondary -x3
 first none
 result none
 type none
@@ -101,6 +105,55 @@ most-ops 0
 first-not-boot -
 $ inspect WORKED --flash in --known-a first < 1792:0=first
 ! mcsim: E70 SourceOptions; exit 2
+";
+
+/// A boot that goes on with a swap while the secondary holds no image, so that the one in the primary runs no more; slots in the wrong order; a second
+/// image one sector up; a layout that never swaps. What is asked of all schedules.
+const VERDICTS: &str = "\
+$ inspect WORKED --flash in --all-boot < 1792:0=first,976=50000000,984=02,1008=MAGIC
+verdict the next boot loses the image that the primary holds
+trailer primary magic=good image-ok=unset copy-done=unset swap-info=0x02 swap-size=80
+trailer secondary UNSET
+resume yes
+table none
+image primary FIRST
+image secondary blank
+sectors primary * -x2 t
+sectors secondary -x3
+first ...
+boot 0
+...! mcsim: E74 NotAllBoot; exit 1
+$ inspect THREE --flash in < 1536:0=second,752=MAGIC,768=first,1392=01,1488=50000000,1520=MAGIC
+verdict needs another layout or another dump
+trailer primary magic=good image-ok=unset copy-done=unset swap-info=0xff swap-size=4294967295
+trailer secondary magic=good image-ok=unset copy-done=unset swap-info=0xff swap-size=80
+resume no
+table test
+hint slots in the wrong order
+...
+$ inspect WORKED --flash in < 1792:0=first,1280=second
+verdict needs another layout or another dump
+trailer primary UNSET
+trailer secondary UNSET
+resume no
+table none
+hint image secondary 1
+...
+$ inspect TWO --flash in < 1152:0=first
+verdict needs --max-sectors 5
+trailer primary UNSET
+...
+! mcsim: note: --max-sectors 4 is less than --primary 5, so that MCUboot refuses to swap; exit 0
+$ inspect TWO --flash in --all-boot < 1152:0=first
+! mcsim: E89 NeverSwaps; exit 2
+$ inspect WORKED --flash in --expect-primary 2.0.0 --expect-secondary 1.0.0 < 1792:0=first,1024=second,1776=MAGIC
+verdict boots
+...
+first-not-boot none
+right 44166610515609
+first-not-right none
+$ inspect WORKED --flash in --all-right < 1792:0=first
+! mcsim: E85 NoExpectation; exit 2
 ";
 
 /// A dump and where it occurs: before operation 9 of the test, and with a byte that no cut leaves; before one of a swap for good and of a
@@ -127,8 +180,9 @@ $ locate WORKED --flash in < 1792:0=first
 ! mcsim: E70 SourceOptions; exit 2
 ";
 
-static TABLES: [Table; 3] = [
+static TABLES: [Table; 4] = [
     (INSPECTED, &[], "-"),
+    (VERDICTS, &[], "-"),
     (LOCATED, FIELDS, DUMPS),
     (UNKNOWN, &[], "-"),
 ];

@@ -18,7 +18,7 @@ struct LifeSession {
 
 /// An upgrade that is cut on its way and then stopped by half a download; the trial ends with a torn confirmation. A revert that
 /// is forgotten and comes back. How often sectors are erased by a download and a swap: those of the table in docs/FORMAT.md.
-static LIVES: [LifeSession; 3] = [
+static LIVES: [LifeSession; 4] = [
     LifeSession {
         line: "life WORKED --image first",
         script: "\
@@ -70,10 +70,22 @@ wear primary 1 0 3
 wear secondary 2 0 5
 ",
     },
+    LifeSession {
+        line: "life WORKED --image first",
+        script: "boot # it runs\r\n#\r\nerase 0x2\r\nwrite \"a second\" 0 0x20\r\nwrite second 32 48 # the rest\nrequest test\nboot 9.4\r\n",
+        want: "\
+1 boot boot none 0 1.0.0+0/80 settled none none
+2 erase 0x2 1.0.0+0/80 settled none none
+3 write \"a second\" 0 0x20 1.0.0+0/80 settled none none
+4 write second 32 48 1.0.0+0/80 settled 2.0.0+0/80 none
+5 request test 1.0.0+0/80 settled 2.0.0+0/80 test
+6 boot 9.4 boot test 5 2.0.0+0/80 trial 1.0.0+0/80 revert
+",
+    },
 ];
 
 /// Events that can't happen. What comes before them is printed.
-static REFUSED: [LifeSession; 11] = [
+static REFUSED: [LifeSession; 20] = [
     LifeSession {
         line: "life WORKED --image first",
         script: "\n# off\nerase 0\n",
@@ -86,8 +98,53 @@ static REFUSED: [LifeSession; 11] = [
     },
     LifeSession {
         line: "life WORKED --image first",
-        script: "boot \n",
+        script: "boot  9\n",
         want: "! mcsim: E78 EventSyntax, event 1, line 1\nexit 1\n",
+    },
+    LifeSession {
+        line: "life WORKED --image first",
+        script: "boot\r\n  # nothing\r\ndownload \"a second\" # whole\r\nrequest test#2\r\n",
+        want: "1 boot boot none 0 1.0.0+0/80 settled none none\n2 download \"a second\" 1.0.0+0/80 settled 2.0.0+0/80 none\n! mcsim: E78 EventSyntax, event 3, line 4\nexit 1\n",
+    },
+    LifeSession {
+        line: "life WORKED --image first",
+        script: "download \"second\n",
+        want: "! mcsim: E78 EventSyntax, event 1, line 1\nexit 1\n",
+    },
+    LifeSession {
+        line: "life WORKED --image first",
+        script: "cut 0x\n",
+        want: "! mcsim: E78 EventSyntax, event 1, line 1\nexit 1\n",
+    },
+    LifeSession {
+        line: "life WORKED --image first",
+        script: "write second 0 8\n",
+        want: "! mcsim: E79 NotRunning, event 1, line 1\nexit 1\n",
+    },
+    LifeSession {
+        line: "life WORKED --image first",
+        script: "boot\nwrite second 4 8\n",
+        want: "1 boot boot none 0 1.0.0+0/80 settled none none\n! mcsim: E90 NotAligned, event 2, line 2\nexit 1\n",
+    },
+    LifeSession {
+        line: "life WORKED --image first",
+        script: "boot\nwrite second 8 73\n",
+        want: "1 boot boot none 0 1.0.0+0/80 settled none none\n! mcsim: E80 NotThatLong, event 2, line 2\nexit 1\n",
+    },
+    LifeSession {
+        line: "life WORKED --image first",
+        script: "boot\nwrite second 0 9\nwrite second 8 8\n",
+        want: "1 boot boot none 0 1.0.0+0/80 settled none none\n2 write second 0 9 1.0.0+0/80 settled none none\n! mcsim: E40 NotErased, event 3, line 3\nexit 1\n",
+    },
+    LifeSession {
+        line: "life WORKED --image first",
+        script: "boot\nwrite missing 0 8\n",
+        want: "1 boot boot none 0 1.0.0+0/80 settled none none\n! mcsim: E71 Open, event 2, line 2\nexit 3\n",
+    },
+    LifeSession {
+        line: "life WORKED --image first",
+        script: "boot\ndownload second 81\n",
+        want: "1 boot boot none 0 1.0.0+0/80 settled none none\n! mcsim: E80 NotThatLong, event 2, line 2\nexit 1\n",
     },
     LifeSession {
         line: "life WORKED --image first",
@@ -252,16 +309,15 @@ fn breaks_off(rt: &impl Abort, alloc: Global, shown: &LifeSession, failure: Fail
 #[test]
 fn a_write_that_fails_ends_it(rt: HostRuntime) {
     let shown = &LIVES[2];
-    // Each byte has a write, and after the last there is none.
-    for calls in 0..=shown.want.len() {
-        for (fault, lasts) in FAULTS {
-            let failure = Failure {
-                calls,
-                fault,
-                lasts,
-            };
-            breaks_off(&rt, rt.alloc(), shown, failure);
-        }
+    // Each byte has a write, which fails in one way or another, and after the last there is none.
+    let failures = FAULTS.into_iter().cycle();
+    for (calls, (fault, lasts)) in (0..=shown.want.len()).zip(failures) {
+        let failure = Failure {
+            calls,
+            fault,
+            lasts,
+        };
+        breaks_off(&rt, rt.alloc(), shown, failure);
     }
 }
 

@@ -2,7 +2,7 @@
 use super::support::{Table, all_play, in_full, same_at, shown_of, shows};
 use mc_fixtures::{PAYLOAD, PLAIN_IMAGE, named};
 use std::alloc::Global;
-use std::fs::Permissions;
+use std::fs::{OpenFile, Permissions};
 use std::os::unix::fs::PermissionsExt;
 use std::process::Abort;
 use std::rt::Files;
@@ -88,12 +88,10 @@ $ boot WORKED --kind test --image-a first --image-b in --verbose < 80:0=first,79
 ! mcsim: E12 WrongDigest in image B; mcsim: image B is in; exit 1
 $ locate WORKED --flash in --known-a first --known-b zeros --verbose < 1792:0=first
 ! mcsim: E2 BadMagic in image B; mcsim: image B is zeros; exit 1
-$ boot WORKED --kind none --image-a in --image-b first --verbose < 16777217:0=ff
-! mcsim: E23 InputTooLong; mcsim: in has more than 16777216 bytes; exit 1
 $ inspect WORKED --flash in --known-a first --verbose < 1792:0=first
 ! mcsim: E70 SourceOptions; mcsim: --known-a and --known-b go together; exit 2
 $ boot WORKED --kind test --image-a first --verbose
-! mcsim: E70 SourceOptions; mcsim: give --flash alone, or all of --kind, --image-a and --image-b; exit 2
+! mcsim: E70 SourceOptions; mcsim: --image-b is missing: give --flash alone, or all of --kind, --image-a and --image-b; exit 2
 $ create --verbose PADDING in out < 12:0=3a3031303230333034303530
 ! mcsim: note: INFILE looks like Intel HEX, and create takes a binary (objcopy -O binary); exit 0
 => 84 bytes
@@ -146,13 +144,30 @@ fn keeps_until_whole<H: Abort + Files + Alloc>(rt: &H, alloc: Global, path: &str
     fs::write(rt, path, PAYLOAD.as_slice()).expect(rt, "a file");
     prints(rt, alloc, line.as_str(), "");
     holds(rt, path, &PLAIN_IMAGE);
-    let beside = format!(in alloc; "{path}.new0").expect(rt, "memory");
-    same_at(
-        rt,
-        &path,
-        &fs::exists(rt, beside.as_str()).unwrap_or(true),
-        &false,
-    )
+    stands(rt, alloc, path, ".new", false)
+}
+
+/// Looks whether a file whose name ends so is in the folder of this one, whose name it begins with.
+fn stands<H: Abort + Files>(rt: &H, alloc: Global, path: &str, end: &str, wanted: bool) {
+    let beside = format!(in alloc; "{path}{end}").expect(rt, "memory");
+    let found = fs::exists(rt, beside.as_str()).unwrap_or(!wanted);
+    same_at(rt, &(path, end), &found, &wanted)
+}
+
+/// The next run takes away what one has left that is over, and nothing else: no process has a number above 4194304, and 1 is never over.
+fn takes_away_what_is_left<H: Abort + Files + Alloc>(rt: &H, alloc: Global, path: &str) {
+    let ends = [".new4194305", ".new1", ".newer", ".new4194305.bin"];
+    for end in ends {
+        let beside = format!(in alloc; "{path}{end}").expect(rt, "memory");
+        fs::write(rt, beside.as_str(), "").expect(rt, "a file");
+    }
+    let line = format!(in alloc; "create --keep --version 1.2.3+4 -H 32 --pad-header - {path}");
+    prints(rt, alloc, line.expect(rt, "memory").as_str(), "");
+    for end in ends {
+        stands(rt, alloc, path, end, end != ".new4194305");
+        let beside = format!(in alloc; "{path}{end}").expect(rt, "memory");
+        let _ = fs::remove_file(rt, beside.as_str());
+    }
 }
 
 /// Boots a flash in place, by its path or a link.
@@ -189,6 +204,20 @@ fn boots_through_a_link<H: Abort + Files + Alloc>(rt: &H, alloc: Global, path: &
     fs::remove_file(rt, link.as_str()).expect(rt, "a link")
 }
 
+/// A file of one byte more than is read of an image.
+fn is_too_long<H: Abort + Files + Alloc>(rt: &H, alloc: Global, path: &str) {
+    let file = fs::create(rt, path).expect(rt, "a file");
+    file.set_len(16_777_217).expect(rt, "a file");
+    let line = format!(in alloc;
+        "boot WORKED --kind none --image-a {path} --image-b {path} --verbose"
+    );
+    let line = in_full(rt, alloc, line.expect(rt, "memory").as_str());
+    let want = format!(in alloc;
+        "! mcsim: E23 InputTooLong\nmcsim: {path} has more than 16777216 bytes\nexit 1\n"
+    );
+    prints(rt, alloc, line.as_str(), want.expect(rt, "memory").as_str())
+}
+
 /// What is written takes the place of a plain file when it is whole, and not before, and has that one's rights.
 #[test]
 fn writes_beside_and_renames(rt: HostRuntime) {
@@ -200,8 +229,10 @@ fn writes_beside_and_renames(rt: HostRuntime) {
     rt.set_permissions(path.as_str(), Permissions::from_mode(0o640))
         .expect(&rt, "a file");
     keeps_until_whole(&rt, rt.alloc(), path.as_str());
+    takes_away_what_is_left(&rt, rt.alloc(), path.as_str());
     boots_in_place(&rt, rt.alloc(), path.as_str(), path.as_str());
     has_rights(&rt, path.as_str());
     boots_through_a_link(&rt, rt.alloc(), path.as_str());
+    is_too_long(&rt, rt.alloc(), path.as_str());
     fs::remove_file(&rt, path.as_str()).expect(&rt, "a file")
 }

@@ -177,6 +177,21 @@ none 0...<pre class=\"y\">result boot; type test; ops 18; SWAPPED; next revert
 </pre>
 </section>
 </html>
+$ picture WORKED --kind test IMAGES --schedule 9.4 --from 9 --to 9
+...<h2>boot 0 test, ops 18</h2>
+<details open><summary><span class=\"r c\"><b>9</b><i class=\"a x\" style=\"flex:1\">a0</i><i class=\"a\" style=\"flex:1\">a0</i>\
+<i class=\"n\" style=\"flex:1\">-</i><i class=\"t\" style=\"flex:1\">t</i><u></u><i class=\"b\" style=\"flex:1\">b0</i>\
+<i class=\"n\" style=\"flex:1\">-</i><i class=\"n\" style=\"flex:1\">-</i>\
+<span>erase primary 0</span><em class=\"y\">boot test 9 2.0.0+0/80 1.0.0+0/80 revert</em></span>
+</summary>
+</details>
+</section>
+<section><h2>boot 1 test, ops 9</h2>
+</section>
+<section>...
+</html>
+$ picture WIDE --kind test IMAGES --grain unit --verbose
+! mcsim: E91 LargePicture; mcsim: give --from and --to, with at most 20000 operations between them; exit 2
 $ picture WORKED --kind test IMAGES --schedule 9.9
 ! mcsim: E53 CannotOccur at 1; exit 1
 $ picture WORKED --kind test IMAGES --expect-primary x

@@ -108,8 +108,8 @@ Copy the whole word after next, in lower case.
 $ explain
 E1 Truncated, exit status 1
 E2 BadMagic, exit status 1...
-E88 LayoutFile, exit status 2
-E89 NeverSwaps, exit status 2
+E90 NotAligned, exit status 1
+E91 LargePicture, exit status 2
 $ 
 ! ...Usage: mcsim [OPTIONS] <COMMAND>...exit 2
 ";

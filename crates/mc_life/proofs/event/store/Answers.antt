@@ -1,10 +1,9 @@
-use Rattle.std.proofs.Common.{refl, arith}
-use Rattle.mc_output.specs.facts.Parting.{one_piece, parted}
-use Rattle.mc_life.proofs.Reading.{no_store}
+use Rattle.std.proofs.Common.{Bor, List, ℕ, ap, option_map}
+use Rattle.mc_life.proofs.Events.{no_store, unnamed_store}
 use Rattle.mc_life.proofs.event.store.Goals as goal
 
 pub returns-in_default : goal.returns-in_default
-returns-in_default c = record { event = one_piece 32 (omega arith) c.args.rest.now c.split_once.result c.split_once.ensures.cases c.in_default.is; name_is = refl; rest_is = refl }
+returns-in_default c = unnamed_store _ c.in_default.ensures
 
-pub returns : goal.returns
-returns c = no_store _ _ _ (parted 32 (omega arith) c.args.rest.now c.split_once.result c.split_once.ensures.cases c.in-Some._file c.in-Some._more c.in-Some.is)
+pub returns-in-Some-more : goal.returns-in-Some-more
+returns-in-Some-more c = no_store _ _ _ c.in-Some.ensures _ (ap (option_map (λ (t : Bor (List ℕ)). t.now)) c.in-Some-more.is)

@@ -6,7 +6,7 @@ use Rattle.mc_explore.specs.{declared.one_round.OneRound.{OneRound}, inner.LastC
 use Rattle.mc_output.specs.facts.Prefixes.{out_stops}
 use Rattle.mc_flash.specs.Usage.{Seen}
 use Rattle.mc_start.specs.Start.{begun}
-use Rattle.mc_trace.specs.inner.Rows.{length_to, model_of}
+use Rattle.mc_trace.specs.{Picture.{opens}, inner.Rows.{length_to, model_of}}
 use Rattle.mc_trace.proofs.BootRows.{all_shown, end_begun, end_out, number_is, one_shown, one_there, row_begun, row_is, row_out, rows_begun}
 use Rattle.mc_trace.proofs.boot_rows.write_boot_rows.Given.{Over}
 use Rattle.mc_trace.proofs.boot_rows.write_boot_rows.Goals as goal
@@ -88,11 +88,12 @@ loop-number-preserved g c =
     let more = one_shown start walk c.requires.ready.start_is c.args.cut c.requires.inside _ i.to_is n c.loop-number-test.true in
     let layout = ap (λ (x : PowerOn). x.geometry) (landed_again start walk.path) in
     let one : suc n ≡ n + 1 = omega arith in
+    let opened = c.opens-inside.ensures ∙ ap (λ k. opens c.args.look.now k c.row_here-row.result.op) number in
     record {
       to_is = i.to_is;
       at = λ m e. let same : n ≡ m = omega (arith, e) in subst (λ k. IsAtChild model_of walk k at) same here;
       come = subst (λ k. HasCome model_of walk k at) one (come_on model_of walk n at here);
-      out = rw (sym c.is_erase-inside.ensures) at (row_out c.args.look.now start.content (boot_at start walk.path) c.args.cut c.loop-number.inside n at.seen.content _ is number more
+      out = rw (sym opened) at (row_out c.args.look.now start.content (boot_at start walk.path) c.args.cut c.loop-number.inside n at.seen.content _ is number more
           start.geometry layout (g.W.Write.contents c.args.writer.now) (g.W.Write.contents c.loop-number.writer) (g.W.Write.contents c.write_grouped.new.writer) i.out
           (rw c.flash.ensures at c.in_ok-write_grouped.ensures.written));
     }

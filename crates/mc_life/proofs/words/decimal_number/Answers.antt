@@ -1,5 +1,5 @@
 use Rattle.mc_start.specs.facts.Reading.{other_text, read_back}
-use Rattle.mc_life.proofs.event.number_of.Goals as goal
+use Rattle.mc_life.proofs.words.decimal_number.Goals as goal
 
 pub returns-in_default : goal.returns-in_default
 returns-in_default c = λ n small is.

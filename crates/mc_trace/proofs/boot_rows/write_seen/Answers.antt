@@ -2,7 +2,7 @@ use Rattle.std.specs.Prelude.{◌++◌}
 use Rattle.std.proofs.{KnownBytes.{Appends-trans}, lemmas.Result.{err_from_is_err_and}}
 use Rattle.mc_trace.specs.{Picture.{Shown, after_row, before_row, is_erase, row_text}, inner.Rows.{row_shown}}
 use Rattle.mc_trace.proofs.Writing.{first_begun, then_begun}
-use Rattle.mc_trace.proofs.boot_rows.write_grouped.Goals as goal
+use Rattle.mc_trace.proofs.boot_rows.write_seen.Goals as goal
 
 pub returns-in_err-write_before-clause-written : goal.returns-in_err-write_before-clause-written
 returns-in_err-write_before-clause-written g c =
