@@ -169,7 +169,7 @@ fn is_kept(rt: &impl Abort, flash: &mut SnapFlash) -> bool {
     error == FlashError::Memory && is_whole && flash.mark().expect(rt, "a checkpoint") == 0
 }
 
-/// `scripts/refuse-tests` refuses each allocation of the tests in turn.
+/// `scripts/test/refuse-allocations-of-tests` refuses each allocation of the tests in turn.
 #[test]
 fn a_refused_mark_changes_nothing(rt: HostRuntime) {
     let kept = is_kept(&rt, &mut loaded::<SnapFlash>(&rt, rt.alloc(), 1));

@@ -37,7 +37,7 @@ enum Engine {
 }
 
 impl Engine {
-    /// What an engine returns. The test ends where an allocation failed (`scripts/refuse-tests`).
+    /// What an engine returns. The test ends where an allocation failed (`scripts/test/refuse-allocations-of-tests`).
     fn run<R: Read, W: Write>(
         self,
         rt: &impl Abort,

@@ -8,7 +8,7 @@ use std::alloc::Global;
 use std::process::Abort;
 
 /// The row of a campaign that is replayed from a start, or why it is not. The test ends where an allocation failed
-/// (`scripts/refuse-tests`).
+/// (`scripts/test/refuse-allocations-of-tests`).
 fn shown_of<F: Flash + Drop>(
     rt: &impl Abort,
     alloc: Global,

@@ -19,7 +19,7 @@ static STOPPED: Errors = [
     Some(ExploreError::Failed),
 ];
 
-/// What is reported of the pages of an exploration. The test ends where an allocation failed (`scripts/refuse-tests`).
+/// What is reported of the pages of an exploration. The test ends where an allocation failed (`scripts/test/refuse-allocations-of-tests`).
 fn errors_of<S: RowSource>(
     rt: &impl Abort,
     source: &mut S,
