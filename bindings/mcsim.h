@@ -38,7 +38,7 @@ enum {
 struct mcsim_source {
     uint32_t sector, unit, max_sectors, chunk, primary, secondary; /* the six numbers of a layout */
     uint32_t grain;                                                /* 0: whole calls happen or not; 1: single units */
-    uint32_t profile;                                              /* 1 or 2 */
+    uint32_t profile;                                              /* 1, 2 or 3 */
     uint32_t kind;                                                 /* MCSIM_NONE .. MCSIM_FLASH */
 };
 

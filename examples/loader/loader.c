@@ -1,7 +1,7 @@
 /* A small boot loader that swaps two images by moving them, over a file that holds both slots, the primary first. It was written from
  * docs/MODEL.md and docs/FORMAT.md, shares no code with mcsim, and is not proved: it stands here to be tried by scripts/conform.
  *
- *   loader FILE --sector N --unit N --max-sectors N --chunk N --primary N --secondary N [--grain call|unit] [--profile 1|2]
+ *   loader FILE --sector N --unit N --max-sectors N --chunk N --primary N --secondary N [--grain call|unit] [--profile 1|2|3]
  *          [--stop-after N]
  *
  * It performs one boot on FILE, in place, and prints the boot's type and how many operations happened. With --stop-after it loses power
@@ -32,7 +32,8 @@ enum field { AT_MAGIC = 16, AT_IMAGE_OK = 24, AT_COPY_DONE = 32, AT_SWAP_INFO = 
 
 static struct {
     uint32_t sector, unit, max_sectors, chunk, sectors[2];
-    bool by_units, profile_two;
+    bool by_units;
+    uint32_t profile;
 } layout;
 
 static struct {
@@ -369,9 +370,16 @@ static void swap(void) {
 static enum kind asked(void) {
     if (magic_good(SECONDARY) && flag_unset(SECONDARY, AT_IMAGE_OK)) return TEST;
     if (magic_good(SECONDARY) && flag_set(SECONDARY, AT_IMAGE_OK)) return PERM;
-    bool gone = magic_unset(SECONDARY) || (layout.profile_two && !magic_good(SECONDARY));
+    bool gone = magic_unset(SECONDARY) || (layout.profile >= 2 && !magic_good(SECONDARY));
     if (magic_good(PRIMARY) && gone && flag_unset(PRIMARY, AT_IMAGE_OK) && flag_set(PRIMARY, AT_COPY_DONE)) return REVERT;
     return NONE;
+}
+
+/* Whether a swap that was cut goes on: no other is asked for, by profile 3 in a way that is clear. */
+static bool goes_on(void) {
+    bool clear = flag_unset(SECONDARY, AT_IMAGE_OK) || flag_set(SECONDARY, AT_IMAGE_OK);
+    bool other = magic_good(SECONDARY) && (layout.profile < 3 || clear);
+    return magic_good(PRIMARY) && flag_unset(PRIMARY, AT_COPY_DONE) && !other;
 }
 
 /* ---- the command line */
@@ -398,7 +406,7 @@ static void read_words(int count, char **words) {
         } else if (strcmp(words[i], "--grain") == 0) {
             layout.by_units = strcmp(words[i + 1], "unit") == 0;
         } else if (strcmp(words[i], "--profile") == 0) {
-            layout.profile_two = strcmp(words[i + 1], "2") == 0;
+            layout.profile = number_of(words[i + 1]);
         } else {
             die("an option is not known");
         }
@@ -411,7 +419,7 @@ static void read_words(int count, char **words) {
 int main(int count, char **words) {
     read_words(count, words);
     load();
-    if (magic_good(PRIMARY) && flag_unset(PRIMARY, AT_COPY_DONE) && !magic_good(SECONDARY)) {
+    if (goes_on()) {
         resume();
     } else {
         boot.kind = asked();

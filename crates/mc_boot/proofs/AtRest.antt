@@ -10,7 +10,7 @@ use Rattle.mc_boot.specs.declared.image.Images.{Images}
 use Rattle.mc_flash.specs.{Flash.{Content, IsSized}, Geometry.{Geometry, IsLayout, fits, greatest_sectors}, declared.flash.Grain.{Grain}}
 use Rattle.mc_flash.specs.{declared.op.Slot.TheVariants.{Primary, Secondary}, facts.Layouts.{fits_few}}
 use Rattle.mc_image.specs.Valid.{is_valid}
-use Rattle.mc_trailer.specs.{Tables.{is_good, is_resumed, is_set, is_unset, table_of}, Trailer.{highest_entry, trailer_of}}
+use Rattle.mc_trailer.specs.{Tables.{asks_another, is_good, is_resumed, is_set, is_unset, table_of}, Trailer.{highest_entry, trailer_of}}
 use Rattle.mc_trailer.specs.{declared.tables.Rules.{Rules}, declared.tables.SwapType.{SwapType}}
 use Rattle.mc_trailer.specs.{declared.trailer.Flag.{Flag}, declared.trailer.Trailer.{Trailer}, facts.Tables.{types_are_rows}}
 use Rattle.mc_trailer.specs.declared.tables.SwapType.TheVariants as kinds
@@ -86,12 +86,13 @@ asked_or_fails x kind table is = go (not (images_of x.content).valid || nat_lt (
         })
 
 pub rests_or_wants : (x : PowerOn) → is_at_rest (trailer_of x.geometry x.content Primary) ≡ true → RestsOrWants x
-rests_or_wants x rest = go (is_resumed x.geometry x.content) refl
+rests_or_wants x rest = go (is_resumed x.rules.profile x.geometry x.content) refl
   where
-    planned : {kind : SwapType} → is_resumed x.geometry x.content ≡ false → table_of x.rules.profile x.geometry x.content ≡ kind → plan x ≡ new_plan x.rules.grain x.geometry (images_of x.content) kind
+    planned : {kind : SwapType} → is_resumed x.rules.profile x.geometry x.content ≡ false → table_of x.rules.profile x.geometry x.content ≡ kind
+        → plan x ≡ new_plan x.rules.grain x.geometry (images_of x.content) kind
     planned not_on at = plan_new x not_on ∙ ap (new_plan x.rules.grain x.geometry (images_of x.content)) at
 
-    by : (kind : SwapType) → is_resumed x.geometry x.content ≡ false → table_of x.rules.profile x.geometry x.content ≡ kind → RestsOrWants x
+    by : (kind : SwapType) → is_resumed x.rules.profile x.geometry x.content ≡ false → table_of x.rules.profile x.geometry x.content ≡ kind → RestsOrWants x
     by kinds.None not_on at = inl (record { kind = kinds.None; either = inl refl; planned = planned not_on at })
     by kinds.Test not_on at = elim (asked_or_fails x kinds.Test at (planned not_on at)) [ inl idle ↦ inl idle | inr wants ↦ inr (inl wants) ]
     by kinds.Perm not_on at = elim (asked_or_fails x kinds.Perm at (planned not_on at)) [ inl idle ↦ inl idle | inr wants ↦ inr (inr (inl wants)) ]
@@ -99,7 +100,7 @@ rests_or_wants x rest = go (is_resumed x.geometry x.content) refl
     by kinds.Fail not_on at = absurd ((types_are_rows x.rules.profile (trailer_of x.geometry x.content Primary) (trailer_of x.geometry x.content Secondary) kinds.Fail).0 at)
     by kinds.Panic not_on at = absurd ((types_are_rows x.rules.profile (trailer_of x.geometry x.content Primary) (trailer_of x.geometry x.content Secondary) kinds.Panic).0 at)
 
-    go : (b : Bool) → is_resumed x.geometry x.content ≡ b → RestsOrWants x
+    go : (b : Bool) → is_resumed x.rules.profile x.geometry x.content ≡ b → RestsOrWants x
     go true on =
         let q = trailer_of x.geometry x.content Secondary in
         inl (record {
@@ -145,7 +146,7 @@ rows gq uq sq gp rv up cp apart = grind (arith, apart)
 
 -- ---- whether it can be done
 
-few_small : (g : Geometry) (x : ℕ) → IsLayout g → div_ceil x g.sector ≤ greatest_sectors g → x ≤ greatest_sectors g * g.sector
+pub few_small : (g : Geometry) (x : ℕ) → IsLayout g → div_ceil x g.sector ≤ greatest_sectors g → x ≤ greatest_sectors g * g.sector
 few_small g x ok at_most =
     let rows : x ≤ div_ceil x g.sector * g.sector = (div_ceil_times x g.sector (omega arith)).0 in
     grind (arith, mul-le-mul_right, at_most, rows)
@@ -200,7 +201,7 @@ not_set f is = grind arith
 
 module _ (r : Rules) (g : Geometry) (ok : IsLayout g) (s : Content) (rest : AtRest g s) where
   pub next_is : (plan (power_on r g s)).kind ≡ done_or_fails (asked_of r.profile (is_on_trial (trailer_of g s Primary)) (trailer_of g s Secondary)) (can_swap g s.secondary)
-  next_is = go (is_resumed g s) refl
+  next_is = go (is_resumed r.profile g s) refl
     where
       table : table_of r.profile g s ≡ asked_of r.profile (is_on_trial (trailer_of g s Primary)) (trailer_of g s Secondary)
       table = grind arith
@@ -213,15 +214,15 @@ module _ (r : Rules) (g : Geometry) (ok : IsLayout g) (s : Content) (rest : AtRe
       by kinds.Fail at = absurd ((types_are_rows r.profile (trailer_of g s Primary) (trailer_of g s Secondary) kinds.Fail).0 at)
       by kinds.Panic at = absurd ((types_are_rows r.profile (trailer_of g s Primary) (trailer_of g s Secondary) kinds.Panic).0 at)
 
-      go : (b : Bool) → is_resumed g s ≡ b
+      go : (b : Bool) → is_resumed r.profile g s ≡ b
           → (plan (power_on r g s)).kind ≡ done_or_fails (asked_of r.profile (is_on_trial (trailer_of g s Primary)) (trailer_of g s Secondary)) (can_swap g s.secondary)
       go true on =
           let p = trailer_of g s Primary in
           let q = trailer_of g s Secondary in
-          let parts : (is_unset p.copy_done ≡ true) × (is_good q.magic ≡ false) = grind (arith, on) in
+          let parts : (is_unset p.copy_done ≡ true) × (asks_another r.profile p q ≡ false) = grind (arith, on) in
           let none : asked_of r.profile (is_on_trial p) q ≡ kinds.None = grind (arith, parts.1, not_set p.copy_done parts.0) in
           let planned = plan_resumed (power_on r g s) on
-          ∙ resumed_none r.grain g p (highest_entry g s) (no_swap (is_good p.magic) (is_unset p.copy_done) (is_swap p.swap_info) (not (is_good q.magic)) rest.rest on) in
+          ∙ resumed_none r.grain g p (highest_entry g s) (no_swap (is_good p.magic) (is_unset p.copy_done) (is_swap p.swap_info) (not (asks_another r.profile p q)) rest.rest on) in
           ap (λ (x : Plan). x.kind) planned ∙ ap (λ k. done_or_fails k (can_swap g s.secondary)) (sym none)
       go false not_on =
           ap (λ (x : Plan). x.kind) (plan_new (power_on r g s) not_on) ∙ by (table_of r.profile g s) refl ∙ ap (λ k. done_or_fails k (can_swap g s.secondary)) table

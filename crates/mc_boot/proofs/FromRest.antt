@@ -1,28 +1,23 @@
--- From rest to rest: what a confirmation leaves, reverts, and what cuts and a boot leave of a flash at rest, which rests again.
-use Rattle.std.proofs.{Common.{ap, arith, inl, inr, subst, sym, ◌∙◌}, Math.Nat.{mul-le-mul_right}, lemmas.Bool.{cases_lt}, lemmas.Grind.{div_ceil_times}}
-use Rattle.std.proofs.lemmas.List.Edits.{get_or-between}
-use Rattle.std.specs.List.{range_with_len}
-use Rattle.std.specs.Prelude.{Bool, List, Option, Some, [], false, if◌then◌else◌, length, map, refl, replicate, slice_index, true, ℕ, ◌&&◌, ◌*◌, ◌++◌, ◌+◌, ◌-◌, ◌<◌, ◌∷◌, ◌≡◌, ◌≢◌, ◌≤◌, ◌⊎◌}
-use Rattle.mc_boot.proofs.{AtRest.{AtRest, Idles, Wants, rests_or_wants}, Courses.{some_trailer}, Images.{ImageLaws, SameImage}}
-use Rattle.mc_boot.proofs.InPieces.{trailer_pieces, Steps, cycle, exchanged_pieces, keeps_more, pieces_again, plan_in_pieces, sized_whole, steps_by, swap_pieces, fields_pieces, fields_whole}
-use Rattle.mc_boot.proofs.{Keeps.{Erased, Keeps, erase_inside}, Meets.{same_bytes, same_content as equal_content, which_slot}, Moving.{data_begin}}
-use Rattle.mc_boot.proofs.Phases.{Ended, Phase, Swap, Waiting, asked, asked_from, asks, larger_size, new_is, plan_tested, magic_unset_reverts, starting, swap_of, tested, tested_from, unasked}
-use Rattle.mc_boot.proofs.Starts.{count_of, swap_between}
-use Rattle.mc_boot.proofs.SwapEnds.{Crossed, Nothing, asked_boots, asked_swaps, crossed, exchanges, prefix_at_start, image_there, running_swaps, sees_start, settled_end, settled_on, tested_end, Swaps}
-use Rattle.mc_boot.proofs.SwapsKeep.{data_erased, magic_unset_blank, revert_keeps, magic_erased}
-use Rattle.mc_boot.specs.{Life.{DeviceState, EndsWell, Forgets, Leaves, LeavesBytes, booted_by, device_state, is_on_trial}, Outcome.{after}}
-use Rattle.mc_boot.specs.Plan.{Plan, PowerOn, new_list, nothing, plan, power_on}
-use Rattle.mc_boot.specs.Restart.{IsTested, AreExchanged, IsSettled, confirmed, forgets_reverts, may_confirm}
-use Rattle.mc_flash.specs.Flash.{Content, IsSized, apply, byte, is_blank, sectors_of}
-use Rattle.mc_flash.specs.{Geometry.{Geometry, IsLayout, greatest_sectors, in_pieces}, declared.flash.Grain.{Grain}, declared.op.Op.{Op}}
-use Rattle.mc_flash.specs.{declared.op.Slot.{Slot}, declared.op.Slot.TheVariants.{Primary, Secondary}}
-use Rattle.mc_flash.specs.{facts.Changes.{Changed, blank_range, erase_changes, sized_is}, facts.Layouts.{small_unit}}
+-- From rest to rest: what a boot leaves of a flash at rest, however often power was lost before, and that the device rests again.
+use Rattle.std.proofs.{Common.{ap, arith, inl, inr, subst, sym, ◌∙◌}, lemmas.List.Edits.{get_or-between}}
+use Rattle.std.specs.Prelude.{Bool, List, Option, [], false, if◌then◌else◌, length, refl, replicate, slice_index, true, ℕ, ◌&&◌, ◌*◌, ◌+◌, ◌-◌, ◌<◌, ◌∷◌, ◌≡◌, ◌≢◌, ◌≤◌, ◌⊎◌}
+use Rattle.mc_boot.proofs.{AtRest.{AtRest, Idles, RestsOrWants, Wants, few_small, rests_or_wants}, Images.{ImageLaws, SameImage, has_same}}
+use Rattle.mc_boot.proofs.{InPieces.{exchanged_pieces, fields_pieces, fields_whole, pieces_again, plan_in_pieces, sized_whole, swap_pieces, trailer_pieces}, Moving.{Data, data_begin}}
+use Rattle.mc_boot.proofs.{Phases.{Ended, Swap, asked, asked_from, larger_size, swap_of, tested, tested_from}, Starts.{count_of, swap_between}}
+use Rattle.mc_boot.proofs.SwapEnds.{Crossed, crossed, exchanges, prefix_at_start, prefix_lists, settled_end, settled_on, tested_end, uncrossed}
+use Rattle.mc_boot.proofs.{Tears.{Losing, Strides, Way, cutting, cycle, how, strides_by, tearing}, TornPhases.{Becomes, Torn, Trial, Unsure, Waits, asks, quiet_not_good, waits}}
+use Rattle.mc_boot.proofs.TornProof.{Forgotten, Turned, idles, lost, made, torn_strides, unclear, unsure, waiting_strides}
+use Rattle.mc_boot.specs.{Life.{DeviceState, EndsWell, Forgets, Leaves, LeavesBytes, booted_by, device_state, is_at_rest, is_on_trial}, Plan.{Plan, PowerOn, nothing, plan, power_on}}
+use Rattle.mc_boot.specs.Restart.{AreBack, AreExchanged, IsSettled, IsTested, confirmed, may_confirm}
+use Rattle.mc_boot.specs.Torn.{EndsMade, EndsTorn, IsDropped, IsForgotten, IsMade, IsPassedOver, IsUnclear, IsUnsure, Tearing, TurnsOut, gently, roughly}
+use Rattle.mc_flash.specs.{Flash.{Content, byte, is_blank}, Geometry.{Geometry, IsLayout, in_pieces}, declared.flash.Grain.{Grain}, declared.op.Slot.{Slot}}
+use Rattle.mc_flash.specs.{declared.op.Slot.TheVariants.{Primary, Secondary}, facts.Changes.{blank_range, sized_is}, facts.Layouts.{small_unit}}
 use Rattle.mc_image.specs.Valid.{Identity, id_of, is_valid}
-use Rattle.mc_trailer.specs.{Tables.{is_good, is_set, is_unset, reverts_at}, Trailer.{bytes_at, one_unit, place, trailer_of}}
-use Rattle.mc_trailer.specs.{declared.tables.Rules.{Rules}, declared.tables.SwapType.{SwapType}}
-use Rattle.mc_trailer.specs.{declared.trailer.Trailer.{Trailer}}
-use Rattle.mc_trailer.specs.facts.Fields.{FieldIs, FieldsAre, blank_byte, blank_field, field_as, fields_same, reads_absent, reads_copy_done, reads_good, reads_image_ok, reads_not_good}
-use Rattle.mc_trailer.specs.{facts.Places.{field_ends}, facts.Tables.{types_are_rows, and_parts}}
+use Rattle.mc_trailer.specs.{Tables.{is_good, is_set, is_unset, reverts_at}, Trailer.{bytes_at, one_unit, place, trailer_of}, declared.tables.Rules.{Rules}, declared.tables.SwapType.{SwapType}}
+use Rattle.mc_trailer.specs.{declared.trailer.Trailer.{Trailer}, facts.Fields.{FieldIs, FieldsAre, blank_byte, field_as, reads_copy_done, reads_good}, facts.Places.{field_ends}}
+use Rattle.mc_trailer.specs.facts.Tables.{and_parts, asks_none, types_are_rows}
+use Rattle.mc_flash.specs.declared.flash.Grain.TheVariants as grains
+use Rattle.mc_trailer.specs.declared.tables.Profile.TheVariants as profiles
 use Rattle.mc_trailer.specs.declared.places.Field.TheVariants as field
 use Rattle.mc_trailer.specs.declared.trailer.Flag.TheVariants as flags
 use Rattle.mc_trailer.specs.declared.tables.SwapType.TheVariants as kinds
@@ -72,343 +67,392 @@ pub unmarked_stays : (g : Geometry) (z : Content) → (trailer_of g z Primary).m
 unfolding confirmed
 unmarked_stays g z absent = grind arith
 
--- A revert of whatever the secondary holds, by every rule; some rules can forget it.
+-- What power-on after power-on leaves of a device at rest, however often power is lost.
 
--- what a second change of the same bytes leaves
-again_same : (s t u : Content) (slot : Slot) (at : ℕ) (new : List ℕ) → Changed s t slot at new → Changed t u slot at new → (o : Slot) (i : ℕ) → byte u o i ≡ byte t o i
-again_same s t u slot at new one two o i = by (which_slot o slot)
+back_pieces : (c : Grain) (g : Geometry) (n : ℕ) (s z : Content) → AreBack (in_pieces c g) n s z → AreBack g n s z
+back_pieces grains.Call g n s z are = are
+back_pieces grains.Unit g n s z are = record { primary = are.primary; secondary = are.secondary }
+
+abbrev Nothing : Content → Type 0
+Nothing s = ⊥
+
+-- At rest; or, where operations are torn and but for the third profile, a swap seems under way that no boot goes on with.
+pub record Stuck (way : Way) (r : Rules) (g : Geometry) (s : Content) : Type 0 where
+  pub torn : way ≢ cutting
+  pub rules : r.profile ≢ profiles.Three
+  pub busy : is_at_rest (trailer_of g s Primary) ≡ false
+  pub idle : plan (power_on r g s) ≡ nothing kinds.None
+  pub valid : is_valid s.primary ≡ true
+
+abbrev pub Rests : Way → Rules → Geometry → Content → Type 0
+Rests way r g s = AtRest g s ⊎ Stuck way r g s
+
+pub at_rest_uncut : (r : Rules) (g : Geometry) (s : Content) → Rests cutting r g s → AtRest g s
+at_rest_uncut r g s (inl rest) = rest
+at_rest_uncut r g s (inr stuck) = absurd (stuck.torn refl)
+
+-- What the boot from u makes of s, which the device rested on.
+abbrev pub Makes : Way → Rules → Geometry → Content → Content → Content → Type 0
+Makes cutting r g s u z = Leaves r g s z ⊎ Forgets r g s u z
+Makes (tearing f) r g s u z = TurnsOut f r g (plan (power_on r g s)).kind (plan (power_on r g s)).sectors s u z
+
+-- z names the images that a and b begin with.
+abbrev pub AreNamed : List ℕ → List ℕ → Content → Type 0
+AreNamed a b z = (id_of z.primary ≡ id_of a) × (id_of z.secondary ≡ id_of b)
+
+-- It ends well, both images stand somewhere, and the device rests on what it leaves.
+pub record EndsRested (way : Way) (r : Rules) (g : Geometry) (s u z : Content) : Type 0 where
+  pub well : EndsWell (power_on r g u) z
+  pub makes : Makes way r g s u z
+  pub images : AreNamed s.secondary s.primary z ⊎ AreNamed s.primary s.secondary z
+  pub rests : Rests way r g z
+
+pub ends_torn : (f : Tearing) (r : Rules) (g : Geometry) (s u z : Content) → EndsRested (tearing f) r g s u z → EndsTorn f r g s u z
+ends_torn f r g s u z is = record { well = is.well; turns = is.makes; rests = λ third. let rests_ = is.rests in grind arith }
+
+-- ---- nothing to do
+
+pub idle_law : (way : Way) (r : Rules) (g : Geometry) (s : Content) → is_valid s.primary ≡ true → Rests way r g s → Idles (power_on r g s) → (u : Content) (cuts : List ℕ)
+    → Losing way (power_on r g s) cuts u → (z : Content) × EndsRested way r g s u z
+idle_law way r g s ready rests i u cuts is =
+    let end = cycle way r g (λ t. t ≡ s) (λ t z. z ≡ s) steps (λ t z same. rw same ready) cuts s u refl is in
+    (end.0, record { well = end.1; makes = makes way end.0 end.2; images = rw end.2 (inr (refl, refl)); rests = rw end.2 rests })
   where
-    inside : (k : ℕ) → k < length new → at + k ≡ i → byte u slot i ≡ byte t slot i
-    inside k short is = rw (sym is) (two.inside k short ∙ sym (one.inside k short))
+    not_panic : i.kind ≢ kinds.Panic
+    not_panic panic = elim i.either [ inl e ↦ cc | inr e ↦ cc ]
 
-    here : byte u slot i ≡ byte t slot i
-    here = elim (cases_lt i at) [
-      | inl low ↦ two.before i low
-      | inr from ↦ elim (cases_lt i (at + length new)) [
-        | inl below ↦ inside (i - at) (omega (arith, from, below)) (omega (arith, from))
-        | inr above ↦ two.beyond i above
-      ]
-    ]
+    steps : (t : Content) → t ≡ s → Strides way (power_on r (in_pieces r.grain g) t) (λ t. t ≡ s) (λ t. t ≡ s)
+    steps t same = rw same (strides_by way (power_on r (in_pieces r.grain g) s) (λ t. t ≡ s) (λ t. t ≡ s) (nothing i.kind) (plan_in_pieces r g s ∙ i.planned) not_panic refl)
 
-    by : (o ≡ slot) ⊎ (o ≢ slot) → byte u o i ≡ byte t o i
-    by (inl same) = rw same here
-    by (inr other) = two.other o i other
-
-pub erased_again : (s t u : Content) (slot : Slot) (at : ℕ) (new : List ℕ) → Changed s t slot at new → Changed t u slot at new → u ≡ t
-erased_again s t u slot at new one two =
-    equal_content t u (same_bytes t u Primary (two.sizes Primary) (again_same s t u slot at new one two Primary))
-    (same_bytes t u Secondary (two.sizes Secondary) (again_same s t u slot at new one two Secondary))
-
--- Where the first operation makes s as t, and changes t no more, a list that keeps P from t keeps it from s.
-from_first : (g : Geometry) (P Q : Content → Type 0) (f : ℕ → Op) (m : ℕ) (rest : List Op) (s t : Content) → 0 < m → P s → apply g (f 0) s ≡ Some t → apply g (f 0) t ≡ Some t
-    → Keeps g P (map f (range_with_len 0 m) ++ rest) t Q → Keeps g P (map f (range_with_len 0 m) ++ rest) s Q
-from_first g it one f other rest s t some begin makes still keeps = grind arith
-
--- From s, where the primary's image is on trial and the plan is a revert. The layout is in pieces.
-module _ (r : Rules) (g : Geometry) (s : Content) (size n : ℕ) (whole : in_pieces r.grain g ≡ g) (w : Swap g s size n) where
-  -- The revert waits, or it is at its very start, where the secondary's trailer may hold anything.
-  abbrev pub Waits : Content → Type 0
-  Waits t = Waiting r.grain g s n t ⊎ (t ≡ s)
-
-  abbrev pub Reverts : Content → Type 0
-  Reverts = Phase Waits g s size n false
-
-  -- It is forgotten: the boot from t finds nothing to do, and leaves z as it was.
-  pub record Lost (t z : Content) : Type 0 where
-    pub rules : forgets_reverts r.grain r.profile ≡ true
-    pub waiting : Waiting r.grain g s n t
-    pub planned : plan (power_on r g t) ≡ nothing kinds.None
-    pub stays : z ≡ t
-
-  abbrev pub MadeOrLost : Content → Content → Type 0
-  MadeOrLost t z = Ended g s size n false z ⊎ Lost t z
-
-  wider : (t : Content) → Phase (Waiting r.grain g s n) g s size n false t → Reverts t
-  wider t it = grind arith
-
-  made : (t z : Content) → Ended g s size n false z → MadeOrLost t z
-  made t z is = inl is
-
-  from_waiting : (t u : Content) → Waiting r.grain g s n t → Keeps g Reverts (new_list r.grain g kinds.Revert size n) t (MadeOrLost u)
-  from_waiting t u is =
-      keeps_more g (Phase (Waiting r.grain g s n) g s size n false) Reverts (Ended g s size n false) (MadeOrLost u) (new_list r.grain g kinds.Revert size n) t wider (made u)
-      (revert_keeps g s size n w r.grain t is)
-
-  -- the list of the plan
-  listed : (t : Content) → Keeps g Reverts (new_list r.grain g kinds.Revert size n) t (MadeOrLost t) → Keeps g Reverts (starting r.grain g kinds.Revert size n).list t (MadeOrLost t)
-  listed t keeps = let F : Geometry → Type 0 = λ x. Keeps g Reverts (new_list r.grain x kinds.Revert size n) t (MadeOrLost t) in subst F (sym whole) keeps
-
-  waiting_steps : (t : Content) → Waiting r.grain g s n t → Steps (power_on r g t) Reverts (MadeOrLost t)
-  waiting_steps t is = go (reverts_at r.profile (trailer_of g t Secondary).magic) refl
-    where
-      forgotten : (b : Bool) → forgets_reverts r.grain r.profile ≡ b → reverts_at r.profile (trailer_of g t Secondary).magic ≡ false → forgets_reverts r.grain r.profile ≡ true
-      forgotten true rules kept = rules
-      forgotten false rules kept = grind (arith, magic_unset_reverts)
-
-      go : (b : Bool) → reverts_at r.profile (trailer_of g t Secondary).magic ≡ b → Steps (power_on r g t) Reverts (MadeOrLost t)
-      go true reverts =
-          steps_by (power_on r g t) Reverts (MadeOrLost t) (starting r.grain g kinds.Revert size n)
-          (plan_tested (power_on r g t) size n
-          (reads_good g t Primary w.ok is.data_.sized (is.primary field.Magic))
-          (reads_image_ok g t Primary 255 [] (is.primary field.ImageOk))
-          (reads_copy_done g t Primary 1 [] (is.primary field.CopyDone))
-          reverts (sees_start g s size n t w is.data_) w.count w.at_most)
-          (λ e. cc) (listed t (from_waiting t t is))
-      go false kept =
-          let bad : is_good (trailer_of g t Secondary).magic ≡ false = grind (arith, reads_not_good) in
-          let set = reads_copy_done g t Primary 1 [] (is.primary field.CopyDone) in
-          let table = (types_are_rows r.profile (trailer_of g t Primary) (trailer_of g t Secondary) kinds.None).1
-          (grind (arith, bad), grind (arith, bad), grind (arith, kept)) in
-          let planned : plan (power_on r g t) ≡ nothing kinds.None =
-          new_is (power_on r g t) kinds.None (nothing kinds.None) (rw set (grind arith)) table refl in
-          steps_by (power_on r g t) Reverts (MadeOrLost t) (nothing kinds.None) planned (λ e. cc)
-          (inr (record { rules = forgotten (forgets_reverts r.grain r.profile) refl kept; waiting = is; planned = planned; stays = refl }))
-
-  -- The first erase of the secondary's trailer takes its magic, whatever that was.
-  module _ (tested_is : FieldsAre g s Primary tested) (planned : plan (power_on r g s) ≡ starting r.grain g kinds.Revert size n) where
-    taken : (t : Content) → Erased g Secondary 0 s t → Waiting r.grain g s n t
-    taken t ch = record {
-      primary = fields_same g s t Primary tested w.ok (λ p h. ch.other Primary p (λ e. cc)) tested_is;
-      magic_unset = magic_unset_blank r.grain g t (blank_field g t Secondary field.Magic (λ i h. magic_erased g 0 s t i w.ok refl ch h));
-      data_ = data_erased g Secondary n s 0 0 s t (some_trailer g w.ok) ch (data_begin g n s w.sized);
-    }
-
-    start_keeps : Keeps g Reverts (new_list r.grain g kinds.Revert size n) s (MadeOrLost s)
-    start_keeps =
-        let last : ℕ = sectors_of g Secondary - 1 - 0 in
-        let inside = erase_inside g Secondary 0 w.ok (some_trailer g w.ok) in
-        let one = erase_changes g s Secondary last (omega (arith, inside, sized_is g s Secondary w.sized)) in
-        let two = erase_changes g one.0 Secondary last (omega (arith, inside, sized_is g s Secondary w.sized)) in
-        let same : two.0 ≡ one.0 = erased_again s one.0 two.0 Secondary (last * g.sector) (replicate g.sector 255) one.2 two.2 in
-        grind (arith, from_first, some_trailer, from_waiting, taken)
-
-    -- by what a boot from a phase does
-    swap_steps : (t : Content) → Swaps Waits (power_on r g s) size n false t → Steps (power_on r g t) Reverts (MadeOrLost t)
-    swap_steps t swaps = grind (arith, keeps_more)
-
-    pub revert_steps : (t : Content) → Reverts t → Steps (power_on r g t) Reverts (MadeOrLost t)
-    revert_steps t (inl (inl is)) = waiting_steps t is
-    revert_steps t (inl (inr is)) = rw is (steps_by (power_on r g s) Reverts (MadeOrLost s) (starting r.grain g kinds.Revert size n) planned (λ e. cc) (listed s start_keeps))
-    revert_steps t (inr (inl is)) = swap_steps t (asked_swaps Waits (power_on r g s) size n false whole w t is)
-    revert_steps t (inr (inr is)) = swap_steps t (running_swaps Waits (power_on r g s) size n false is.0 is.1 whole w is.2 is.3 t is.4)
-
--- What power-on after power-on leaves of a device at rest, however often the boots are cut.
-
--- What a cycle leaves of s, where u is what the last boot begins with.
-pub record RestsAgain (r : Rules) (g : Geometry) (s u z : Content) : Type 0 where
-  pub leaves : Leaves r g s z ⊎ Forgets r g s u z
-  pub rest : AtRest g z
+    makes : (d : Way) (z : Content) → z ≡ s → Makes d r g s u z
+    makes cutting z same = inl (grind arith)
+    makes (tearing f) z same =
+        let E : Plan → Type 0 = λ p. TurnsOut f r g p.kind p.sectors s u z in
+        subst E (sym i.planned) (elim i.either [ inl none ↦ rw none same | inr fail ↦ rw fail same ])
 
 -- ---- names
 
-abbrev pub named : Option Identity → Bool → Option Identity → SwapType → DeviceState
+abbrev named : Option Identity → Bool → Option Identity → SwapType → DeviceState
 named p trial q next = record { primary = p; trial = trial; secondary = q; next = next }
 
-pub same_names : (p x : Option Identity) (a b : Bool) (q y : Option Identity) (next then_ : SwapType) → p ≡ x → a ≡ b → q ≡ y → next ≡ then_ → named p a q next ≡ named x b y then_
+same_names : (p x : Option Identity) (a b : Bool) (q y : Option Identity) (next then_ : SwapType) → p ≡ x → a ≡ b → q ≡ y → next ≡ then_ → named p a q next ≡ named x b y then_
 same_names p x a b q y next then_ e f h i = cc
 
--- ---- trailers
-
--- ---- a swap that is wanted
-
-module _ (laws : ImageLaws) (g : Geometry) (ok : IsLayout g) (s : Content) (rest : AtRest g s) where
-  -- an image of it is in front of the trailers
-  in_prefix : is_valid s.secondary ≡ true → count_of g s ≤ greatest_sectors g → larger_size s ≤ greatest_sectors g * g.sector
-  in_prefix valid at_most =
-      let rows : larger_size s ≤ count_of g s * g.sector = (div_ceil_times (larger_size s) g.sector (omega arith)).0 in
-      grind (arith, count_of, mul-le-mul_right)
-
-  -- what is left rests
-  module _ (z : Content) where
-    pub rests_crossed : is_valid s.secondary ≡ true → count_of g s ≤ greatest_sectors g → IsSized g z → Crossed s z → (trailer_of g z Primary).copy_done ≡ flags.Set → AtRest g z
-    rests_crossed valid at_most sized held set = grind (arith, in_prefix)
-
-    pub rests_same : is_valid s.secondary ≡ true → IsSized g z → SameImage s.primary z.primary → SameImage s.secondary z.secondary → (trailer_of g z Primary).copy_done ≡ flags.Set → AtRest g z
-    rests_same valid sized one two set = grind arith
-
--- ---- the turns
+-- ---- a swap
 
 module _ (laws : ImageLaws) (r : Rules) (g : Geometry) (ok : IsLayout g) (s : Content) (rest : AtRest g s) where
   abbrev G : Geometry
   G = in_pieces r.grain g
 
-  -- nothing to do
-  idle_law : Idles (power_on r g s) → (u : Content) (cuts : List ℕ) → after (power_on r g s) cuts ≡ Some u → (z : Content) × EndsWell (power_on r g u) z × RestsAgain r g s u z
-  idle_law i u cuts is =
-      let end = cycle r g (λ t. t ≡ s) (λ t z. z ≡ s) steps (λ t z. valid z) cuts s u refl is in
-      (end.0, end.1, grind arith)
-    where
-      not_panic : i.kind ≢ kinds.Panic
-      not_panic panic = elim i.either [ inl e ↦ cc | inr e ↦ cc ]
+  unclear_on : (z : Content) → IsUnclear G z → IsUnclear g z
+  unclear_on z is = record {
+    magic = ap (λ (p : Trailer). p.magic) (sym (trailer_pieces r.grain g z Secondary)) ∙ is.magic;
+    image_ok = ap (λ (p : Trailer). p.image_ok) (sym (trailer_pieces r.grain g z Secondary)) ∙ is.image_ok;
+  }
 
-      steps : (t : Content) → t ≡ s → Steps (power_on r G t) (λ t. t ≡ s) (λ t. t ≡ s)
-      steps t same = rw same (steps_by (power_on r G s) (λ t. t ≡ s) (λ t. t ≡ s) (nothing i.kind) (plan_in_pieces r g s ∙ i.planned) not_panic refl)
-
-      valid : (z : Content) → z ≡ s → is_valid z.primary ≡ true
-      valid z same = ap (λ (t : Content). is_valid t.primary) same ∙ rest.primary.same.valid
-
-  -- a swap that is made
   module _ (kind : SwapType) (wants : Wants (power_on r g s) kind) where
-    whole_swap : Swap g s (larger_size s) (count_of g s)
-    whole_swap = swap_between g s laws ok rest.sized rest.primary (rest.secondary wants.valid) wants.at_most
-
     in_parts : Swap G s (larger_size s) (count_of g s)
-    in_parts = swap_pieces r.grain g s (larger_size s) (count_of g s) whole_swap
+    in_parts = swap_pieces r.grain g s (larger_size s) (count_of g s) (swap_between g s laws ok rest.sized rest.primary (rest.secondary wants.valid) wants.at_most)
 
-    kind_is : (plan (power_on r g s)).kind ≡ kind
-    kind_is = ap (λ (p : Plan). p.kind) wants.planned
-
-    module _ (b : Bool) (z : Content) (e : Ended G s (larger_size s) (count_of g s) b z) where
+    -- after all transfers
+    module _ (z : Content) (data_ : Data G (count_of g s) s (3 * count_of g s) z) where
       held : Crossed s z
-      held = crossed G s (larger_size s) (count_of g s) z in_parts e.2.data_
+      held = crossed G s (larger_size s) (count_of g s) z in_parts data_
 
-      sized : IsSized g z
-      sized = sized_whole r.grain g z e.2.data_.sized
-
-      moved : AreExchanged g (count_of g s) s z
-      moved = exchanged_pieces r.grain g (count_of g s) s z (exchanges G s (larger_size s) (count_of g s) z in_parts e.2.data_)
-
-      absent : (trailer_of g z Secondary).magic ≡ magics.Unset
-      absent = reads_absent g z Secondary ok sized (fields_whole r.grain g z Secondary unasked e.2.secondary field.Magic)
-
-      made_rests : (u : Content) (k : SwapType) (trial : Bool) → (AreExchanged g (count_of g s) s z → LeavesBytes r g kind (count_of g s) s z)
-          → booted_by kind (device_state r g s) ≡ named (id_of s.secondary) trial (id_of s.primary) k
-          → (plan (power_on r g z)).kind ≡ k → is_on_trial (trailer_of g z Primary) ≡ trial → (trailer_of g z Primary).copy_done ≡ flags.Set → RestsAgain r g s u z
-      made_rests u k trial turns names next tried set = record {
-        leaves = inl (record {
-          bytes = let E : Plan → Type 0 = λ p. LeavesBytes r g p.kind p.sectors s z in subst E (sym wants.planned) (turns moved);
-          names = same_names (id_of z.primary) (id_of s.secondary) (is_on_trial (trailer_of g z Primary)) trial (id_of z.secondary) (id_of s.primary)
-              (plan (power_on r g z)).kind k held.primary.id tried held.secondary.id next
-              ∙ sym names ∙ sym (ap (λ k. booted_by k (device_state r g s)) kind_is);
-        });
-        rest = rests_crossed laws g ok s rest z wants.valid wants.at_most sized held set;
+      is_made : IsMade g (count_of g s) s z
+      is_made = record {
+        swapped = exchanged_pieces r.grain g (count_of g s) s z (exchanges G s (larger_size s) (count_of g s) z in_parts data_);
+        primary = held.primary.id;
+        secondary = held.secondary.id;
       }
 
-  -- what holds before a swap that is asked for by the secondary
-  asked_cycle : (b : Bool) (kind : SwapType) → Wants (power_on r g s) kind → FieldsAre g s Secondary (asked b) → (u : Content) (cuts : List ℕ) → after (power_on r g s) cuts ≡ Some u
-      → (z : Content) × EndsWell (power_on r g u) z × Ended G s (larger_size s) (count_of g s) b z
-  asked_cycle b kind wants are u cuts is =
-      cycle r g Bears (λ t z. Ended G s (larger_size s) (count_of g s) b z) steps (λ t z. valid z) cuts s u begin is
-    where
-      Bears : Content → Type 0
-      Bears t = Phase Nothing G s (larger_size s) (count_of g s) b t
+    -- before the first
+    module _ (z : Content) (data_ : Data G (count_of g s) s 0 z) where
+      stands : SameImage s.primary z.primary × SameImage s.secondary z.secondary
+      stands = uncrossed G s (larger_size s) (count_of g s) z in_parts data_
 
-      steps : (t : Content) → Bears t → Steps (power_on r G t) Bears (Ended G s (larger_size s) (count_of g s) b)
-      steps t at =
-          let swaps = asked_boots r g s (larger_size s) (count_of g s) b (whole_swap kind wants) t at in
-          record { keeps = swaps.keeps; not_panic = λ panic. rw (sym swaps.planned.is ∙ panic) at swaps.planned.of }
+      there : (o : Slot) (p : ℕ) → p < count_of g s * G.sector → byte z o p ≡ byte s o p
+      there o = prefix_at_start G s (count_of g s) z o in_parts.ok in_parts.some in_parts.at_most data_
 
-      valid : (z : Content) → Ended G s (larger_size s) (count_of g s) b z → is_valid z.primary ≡ true
-      valid z e = (held kind wants b z e).primary.valid
+      is_dropped : (u : Content) → z ≡ u → plan (power_on r g z) ≡ nothing kinds.None → IsDropped r g (count_of g s) s u z
+      is_dropped u stays planned = record {
+        stays = stays;
+        next = ap (λ (p : Plan). p.kind) planned;
+        idle = ap (λ (p : Plan). p.list) planned;
+        back = back_pieces r.grain g (count_of g s) s z (record {
+          primary = prefix_lists G s (count_of g s) z Primary Primary in_parts.ok in_parts.at_most in_parts.sized data_.sized (there Primary);
+          secondary = prefix_lists G s (count_of g s) z Secondary Secondary in_parts.ok in_parts.at_most in_parts.sized data_.sized (there Secondary);
+        });
+        primary = stands.0.id;
+        secondary = stands.1.id;
+      }
 
-      begin : Bears s
-      begin = asks Nothing G s (larger_size s) (count_of g s) b s (record {
-        secondary = fields_pieces r.grain g s Secondary (asked b) are;
-        data_ = data_begin G (count_of g s) s (in_parts kind wants).sized;
-      })
+    -- and the device rests on it
+    made_rests : (z : Content) → Data G (count_of g s) s (3 * count_of g s) z → EndsMade r g z → AtRest g z
+    made_rests z data_ ends_ =
+        let h = held z data_ in
+        let first = h.primary.size in
+        record {
+          sized = sized_whole r.grain g z data_.sized;
+          primary = has_same s.secondary z.primary (rest.secondary wants.valid) h.primary;
+          at_most = let most = few_small g (larger_size s) ok wants.at_most in omega (arith, most, first);
+          secondary = λ _. has_same s.primary z.secondary rest.primary h.secondary;
+          rest = grind arith;
+        }
+
+    stays_rests : (z : Content) → Data G (count_of g s) s 0 z → is_at_rest (trailer_of g z Primary) ≡ true → AtRest g z
+    stays_rests z data_ free =
+        let size = (stands z data_).0.size in
+        let at_most = rest.at_most in
+        record {
+          sized = sized_whole r.grain g z data_.sized;
+          primary = has_same s.primary z.primary rest.primary (stands z data_).0;
+          at_most = omega (arith, size, at_most);
+          secondary = λ _. has_same s.secondary z.secondary (rest.secondary wants.valid) (stands z data_).1;
+          rest = free;
+        }
+
+    trial_rests : (z : Content) → Trial G s (count_of g s) z → AtRest g z
+    trial_rests z is =
+        let done = ap (λ (p : Trailer). p.copy_done) (sym (trailer_pieces r.grain g z Primary)) ∙ reads_copy_done G z Primary 1 [] (is.primary field.CopyDone) in
+        stays_rests z is.data_ (rw done (grind arith))
+
+    tested_made : (z : Content) → Ended G s (larger_size s) (count_of g s) true z → IsTested (power_on r g z)
+    tested_made z e = grind (arith, trailer_pieces, plan_in_pieces, (tested_end (power_on r G s) (larger_size s) (count_of g s) z in_parts e))
+
+    settled_made : (z : Content) → Ended G s (larger_size s) (count_of g s) false z → IsSettled (power_on r g z)
+    settled_made z e = settled_on r g z (settled_end (power_on r G s) (larger_size s) (count_of g s) z in_parts e)
+
+    ended_made : (e : Bool) (z : Content) → Ended G s (larger_size s) (count_of g s) e z → EndsMade r g z
+    ended_made true z is = inl (tested_made z is)
+    ended_made false z is = inr (inl (settled_made z is))
+
+    unsure_made : (z : Content) → Unsure G s (count_of g s) z → plan (power_on r g z) ≡ nothing kinds.None → IsUnsure (power_on r g z)
+    unsure_made z is planned = record {
+      copy_done = ap (λ (p : Trailer). p.copy_done) (sym (trailer_pieces r.grain g z Primary)) ∙ is.copy_done;
+      next = ap (λ (p : Plan). p.kind) planned;
+      idle = ap (λ (p : Plan). p.list) planned;
+    }
+
+    -- what a boot leaves
+    module _ (way : Way) (Lost : Content → Type 0) (b : Bool) (lost_trial : (z : Content) → Lost z → Trial G s (count_of g s) z) where
+      abbrev Turning : Content → Content → Type 0
+      Turning = Turned way Lost r G s (larger_size s) (count_of g s) b
+
+      planned_on : (t z : Content) → z ≡ t → plan (power_on r G t) ≡ nothing kinds.None → plan (power_on r g z) ≡ nothing kinds.None
+      planned_on t z same planned = sym (plan_in_pieces r g z) ∙ rw same planned
+
+      rests_on : (t z : Content) → Turning t z → Rests way r g z
+      rests_on t z (made e later done) = inl (made_rests z done.2.data_ (ended_made e z done))
+      rests_on t z (idles same planned (lost is)) = inl (trial_rests z (lost_trial z is))
+      rests_on t z (idles same planned (unsure tears is)) = inl (made_rests z is.data_ (inr (inr (unsure_made z is (planned_on t z same planned)))))
+      rests_on t z (idles same planned (unclear unsure_ rules why)) = go (is_at_rest (trailer_of g z Primary)) refl
+        where
+          go : (d : Bool) → is_at_rest (trailer_of g z Primary) ≡ d → Rests way r g z
+          go false busy = inr (record { torn = λ cut. unsure_ (inr cut); rules = rules; busy = busy; idle = planned_on t z same planned; valid = (stands z why.data_).0.valid })
+          go true free = inl (stays_rests z why.data_ free)
+
+      valid : (t z : Content) → Turning t z → is_valid z.primary ≡ true
+      valid t z turned = elim (rests_on t z turned) [ inl at ↦ at.primary.same.valid | inr stuck ↦ stuck.valid ]
+
+      -- it is made, or dropped
+      torn_end : (t z : Content) (D : Type 0) → (IsDropped r g (count_of g s) s t z → ((r.profile ≢ profiles.Three) × IsUnclear g z) ⊎ Lost z → D) → Turning t z
+          → (IsMade g (count_of g s) s z × EndsMade r g z) ⊎ D
+      torn_end t z D dropped (made e later done) = inl (is_made z done.2.data_, ended_made e z done)
+      torn_end t z D dropped (idles same planned (lost is)) = inr (dropped (is_dropped z (lost_trial z is).data_ t same (planned_on t z same planned)) (inr is))
+      torn_end t z D dropped (idles same planned (unsure tears is)) = inl (is_made z is.data_, inr (inr (unsure_made z is (planned_on t z same planned))))
+      torn_end t z D dropped (idles same planned (unclear unsure_ rules why)) =
+          inr (dropped (is_dropped z why.data_ t same (planned_on t z same planned)) (inl (rules, unclear_on z (record { magic = why.magic; image_ok = why.image_ok }))))
+
+    -- where no operation is torn
+    cut_end : (Lost : Content → Type 0) (b : Bool) (t z : Content) → Turned cutting Lost r G s (larger_size s) (count_of g s) b t z
+        → Ended G s (larger_size s) (count_of g s) b z ⊎ (Lost z × (z ≡ t) × (plan (power_on r G t) ≡ nothing kinds.None))
+    cut_end Lost b t z (made e later done) = let F : Bool → Type 0 = λ d. Ended G s (larger_size s) (count_of g s) d z in inl (subst F (later (inr refl)) done)
+    cut_end Lost b t z (idles same planned (lost is)) = inr (is, same, planned)
+    cut_end Lost b t z (idles same planned (unsure tears is)) = absurd (tears refl)
+    cut_end Lost b t z (idles same planned (unclear unsure_ rules why)) = absurd (unsure_ (inr refl))
+
+    -- by names
+    leaves : (b : Bool) (z : Content) → Ended G s (larger_size s) (count_of g s) b z → (k : SwapType) (trial : Bool)
+        → (AreExchanged g (count_of g s) s z → LeavesBytes r g kind (count_of g s) s z)
+        → booted_by kind (device_state r g s) ≡ named (id_of s.secondary) trial (id_of s.primary) k
+        → (plan (power_on r g z)).kind ≡ k → is_on_trial (trailer_of g z Primary) ≡ trial → Leaves r g s z
+    leaves b z e k trial turns names next tried =
+        let is = is_made z e.2.data_ in
+        record {
+          bytes = let E : Plan → Type 0 = λ p. LeavesBytes r g p.kind p.sectors s z in subst E (sym wants.planned) (turns is.swapped);
+          names = same_names (id_of z.primary) (id_of s.secondary) (is_on_trial (trailer_of g z Primary)) trial (id_of z.secondary) (id_of s.primary)
+              (plan (power_on r g z)).kind k is.primary tried is.secondary next
+              ∙ sym names ∙ sym (ap (λ (p : Plan). booted_by p.kind (device_state r g s)) wants.planned);
+        }
+
+    stays_leaves : ((z : Content) → AreExchanged g (count_of g s) s z → IsSettled (power_on r g z) → LeavesBytes r g kind (count_of g s) s z)
+        → booted_by kind (device_state r g s) ≡ named (id_of s.secondary) false (id_of s.primary) kinds.None
+        → (z : Content) → Ended G s (larger_size s) (count_of g s) false z → Leaves r g s z
+    stays_leaves turns names z e =
+        let settled = settled_made z e in
+        leaves false z e kinds.None false (λ m. turns z m settled) names settled.next (rw settled.image_ok (grind arith))
+
+    turns : (f : Tearing) (u z : Content) → TurnsOut f r g kind (count_of g s) s u z → Makes (tearing f) r g s u z
+    turns f u z is = let E : Plan → Type 0 = λ p. TurnsOut f r g p.kind p.sectors s u z in subst E (sym wants.planned) is
+
+    -- every boot, by the phases
+    swap_cycle : (way : Way) (R Lost : Content → Type 0) (b : Bool) → (b ≡ true → how way ≡ gently) → ((z : Content) → Lost z → Trial G s (count_of g s) z)
+        → ((t : Content) → R t → Strides way (power_on r G t) (Torn way R r.profile G s (larger_size s) (count_of g s) b) (Turned way Lost r G s (larger_size s) (count_of g s) b t))
+        → Torn way R r.profile G s (larger_size s) (count_of g s) b s → (u : Content) (cuts : List ℕ) → Losing way (power_on r g s) cuts u
+        → ((z : Content) → Turned way Lost r G s (larger_size s) (count_of g s) b u z → Makes way r g s u z) → (z : Content) × EndsRested way r g s u z
+    swap_cycle way R Lost b gentle lost_trial before begin u cuts is makes =
+        let end = cycle way r g (Torn way R r.profile G s (larger_size s) (count_of g s) b) (Turned way Lost r G s (larger_size s) (count_of g s) b)
+        (torn_strides way R Lost r G s (larger_size s) (count_of g s) b gentle (pieces_again r.grain g) in_parts before) (valid way Lost b lost_trial) cuts s u begin is in (
+          end.0,
+          record {
+            well = end.1;
+            makes = makes end.0 end.2;
+            images = elim (torn_end way Lost b lost_trial u end.0 (IsDropped r g (count_of g s) s u end.0) (λ is why. is) end.2) [
+              | inl is ↦ inl (is.0.primary, is.0.secondary)
+              | inr is ↦ inr (is.primary, is.secondary)
+            ];
+            rests = rests_on way Lost b lost_trial u end.0 end.2;
+          },
+        )
+
+    -- where it is asked for by the secondary
+    asked_cycle : (way : Way) (b e : Bool) → (b ≡ true → how way ≡ gently) → Becomes way b e → FieldsAre g s Secondary (asked e) → (u : Content) (cuts : List ℕ) → Losing way (power_on r g s) cuts u
+        → ((z : Content) → Turned way Nothing r G s (larger_size s) (count_of g s) b u z → Makes way r g s u z) → (z : Content) × EndsRested way r g s u z
+    asked_cycle way b e gentle later are =
+        swap_cycle way Nothing Nothing b gentle (λ z none. absurd none) (λ t none. absurd none)
+        (asks e later (record { secondary = fields_pieces r.grain g s Secondary (asked e) are; data_ = data_begin G (count_of g s) s in_parts.sized }))
+
+    -- where a swap that stays may be made, or none
+    made_or_dropped : (way : Way) (u z : Content) → Turned way Nothing r G s (larger_size s) (count_of g s) false u z
+        → (IsMade g (count_of g s) s z × EndsMade r g z) ⊎ IsPassedOver r g (count_of g s) s u z
+    made_or_dropped way u z =
+        torn_end way Nothing false (λ z none. absurd none) u z (IsPassedOver r g (count_of g s) s u z)
+        (λ is why. elim why [ inl because ↦ record { rules = because.0; dropped = is; unclear = because.1 } | inr none ↦ absurd none ])
 
   -- a test
-  test_law : Wants (power_on r g s) kinds.Test → (u : Content) (cuts : List ℕ) → after (power_on r g s) cuts ≡ Some u → (z : Content) × EndsWell (power_on r g u) z × RestsAgain r g s u z
-  test_law wants u cuts is =
-      let p = trailer_of g s Primary in
-      let q = trailer_of g s Secondary in
-      let asks = and_parts (is_good q.magic) (is_unset q.image_ok) ((types_are_rows r.profile p q kinds.Test).0 wants.table) in
-      let are = asked_from g s true (grind arith) (grind arith) in
-      let end = asked_cycle true kinds.Test wants are u cuts is in
-      (end.0, end.1, rests end.0 end.2)
+  test_law : (way : Way) → Wants (power_on r g s) kinds.Test → (u : Content) (cuts : List ℕ) → Losing way (power_on r g s) cuts u → (z : Content) × EndsRested way r g s u z
+  test_law way wants u cuts is = go way is
     where
-      rests : (z : Content) → Ended G s (larger_size s) (count_of g s) true z → RestsAgain r g s u z
-      rests z e =
-          let size = larger_size s in
-          let n = count_of g s in
-          let first = fields_whole r.grain g z Primary tested (grind arith) in
-          let here = sized kinds.Test wants true z e in
-          let good = reads_good g z Primary ok here (first field.Magic) in
-          let unset = reads_image_ok g z Primary 255 [] (first field.ImageOk) in
-          let set = reads_copy_done g z Primary 1 [] (first field.CopyDone) in
-          let end : IsTested (power_on r g z) = grind (arith, trailer_pieces, plan_in_pieces, (tested_end (power_on r G s) size n z (in_parts kinds.Test wants) e)) in
-          let free : may_confirm g z ≡ true = sym (may_pieces r.grain g z) ∙ may (power_on r G s) size n z (in_parts kinds.Test wants) e in
-          made_rests kinds.Test wants true z e u kinds.Revert true (λ m. (m, end, free)) refl end.next (rw good (rw unset (rw set refl))) set
+      are : FieldsAre g s Secondary (asked true)
+      are =
+          let p = trailer_of g s Primary in
+          let q = trailer_of g s Secondary in
+          let asks_ = and_parts (is_good q.magic) (is_unset q.image_ok) ((types_are_rows r.profile p q kinds.Test).0 wants.table) in
+          asked_from g s true (grind arith) (grind arith)
 
-  -- what a swap that stays leaves
-  stays_rests : (kind : SwapType) → (wants : Wants (power_on r g s) kind) → ((z : Content) → AreExchanged g (count_of g s) s z → IsSettled (power_on r g z) → LeavesBytes r g kind (count_of g s) s z)
-      → booted_by kind (device_state r g s) ≡ named (id_of s.secondary) false (id_of s.primary) kinds.None
-      → (u z : Content) → Ended G s (larger_size s) (count_of g s) false z → RestsAgain r g s u z
-  stays_rests kind wants turns names u z e =
-      let settled = settled_on r g z (settled_end (power_on r G s) (larger_size s) (count_of g s) z (in_parts kind wants) e) in
-      made_rests kind wants false z e u kinds.None false (λ m. turns z m settled) names settled.next (rw settled.image_ok (grind arith)) settled.copy_done
+      uncut : (z : Content) → Ended G s (larger_size s) (count_of g s) true z → Leaves r g s z
+      uncut z e =
+          let first = fields_whole r.grain g z Primary tested (grind arith) in
+          let good = reads_good g z Primary ok (sized_whole r.grain g z e.2.data_.sized) (first field.Magic) in
+          let end = tested_made kinds.Test wants z e in
+          let free : may_confirm g z ≡ true = sym (may_pieces r.grain g z) ∙ may (power_on r G s) (larger_size s) (count_of g s) z (in_parts kinds.Test wants) e in
+          leaves kinds.Test wants true z e kinds.Revert true (λ m. (m, end, free)) refl end.next (rw good (rw end.image_ok (rw end.copy_done refl)))
+
+      gentle_end : (z : Content) → Turned (tearing gently) Nothing r G s (larger_size s) (count_of g s) true u z → TurnsOut gently r g kinds.Test (count_of g s) s u z
+      gentle_end z (made e later done) =
+          let F : Bool → Type 0 = λ d. Ended G s (larger_size s) (count_of g s) d z in
+          (is_made kinds.Test wants z done.2.data_, inl (tested_made kinds.Test wants z (subst F (later (inl refl)) done)))
+      gentle_end z (idles same planned (lost none)) = absurd none
+      gentle_end z (idles same planned (unclear unsure_ rules why)) = absurd (unsure_ (inl refl))
+      gentle_end z (idles same planned (unsure tears why)) =
+          (is_made kinds.Test wants z why.data_, inr (unsure_made kinds.Test wants z why (planned_on kinds.Test wants (tearing gently) Nothing true (λ z none. absurd none) u z same planned)))
+
+      go : (d : Way) → Losing d (power_on r g s) cuts u → (z : Content) × EndsRested d r g s u z
+      go cutting is =
+          asked_cycle kinds.Test wants cutting true true (λ _. refl) (λ _. refl) are u cuts is
+          (λ z turned. elim (cut_end kinds.Test wants Nothing true u z turned) [ inl e ↦ inl (uncut z e) | inr none ↦ absurd none.0 ])
+      go (tearing gently) is =
+          asked_cycle kinds.Test wants (tearing gently) true true (λ _. refl) (λ _. refl) are u cuts is (λ z turned. turns kinds.Test wants gently u z (gentle_end z turned))
+      go (tearing roughly) is =
+          asked_cycle kinds.Test wants (tearing roughly) false true (λ same. absurd cc) (λ sure. absurd (elim sure [ inl test ↦ cc | inr cut ↦ cc ])) are u cuts is
+          (λ z turned. turns kinds.Test wants roughly u z (made_or_dropped kinds.Test wants (tearing roughly) u z turned))
 
   -- an upgrade that stays
-  perm_law : Wants (power_on r g s) kinds.Perm → (u : Content) (cuts : List ℕ) → after (power_on r g s) cuts ≡ Some u → (z : Content) × EndsWell (power_on r g u) z × RestsAgain r g s u z
-  perm_law wants u cuts is =
-      let p = trailer_of g s Primary in
-      let q = trailer_of g s Secondary in
-      let asks = and_parts (is_good q.magic) (is_set q.image_ok) ((types_are_rows r.profile p q kinds.Perm).0 wants.table) in
-      let are = asked_from g s false (grind arith) (grind arith) in
-      let end = asked_cycle false kinds.Perm wants are u cuts is in
-      (end.0, end.1, stays_rests kinds.Perm wants (λ z m n. (m, n)) refl u end.0 end.2)
+  perm_law : (way : Way) → Wants (power_on r g s) kinds.Perm → (u : Content) (cuts : List ℕ) → Losing way (power_on r g s) cuts u → (z : Content) × EndsRested way r g s u z
+  perm_law way wants u cuts is = asked_cycle kinds.Perm wants way false false (λ same. absurd cc) (λ _. refl) are u cuts is (go way)
+    where
+      are : FieldsAre g s Secondary (asked false)
+      are =
+          let p = trailer_of g s Primary in
+          let q = trailer_of g s Secondary in
+          let asks_ = and_parts (is_good q.magic) (is_set q.image_ok) ((types_are_rows r.profile p q kinds.Perm).0 wants.table) in
+          asked_from g s false (grind arith) (grind arith)
 
-  module _ (wants : Wants (power_on r g s) kinds.Revert) where
-    pieces : Swap G s (larger_size s) (count_of g s)
-    pieces = in_parts kinds.Revert wants
+      go : (d : Way) (z : Content) → Turned d Nothing r G s (larger_size s) (count_of g s) false u z → Makes d r g s u z
+      go cutting z turned = elim (cut_end kinds.Perm wants Nothing false u z turned) [
+        | inl e ↦ inl (stays_leaves kinds.Perm wants (λ z m n. (m, n)) refl z e)
+        | inr none ↦ absurd none.0
+      ]
+      go (tearing f) z turned = turns kinds.Perm wants f u z (made_or_dropped kinds.Perm wants (tearing f) u z turned)
 
-    abbrev LostAt : Content → Content → Type 0
-    LostAt u z = Lost r G s (larger_size s) (count_of g s) (pieces_again r.grain g) pieces u z
+  -- a revert
+  revert_law : (way : Way) → Wants (power_on r g s) kinds.Revert → (u : Content) (cuts : List ℕ) → Losing way (power_on r g s) cuts u → (z : Content) × EndsRested way r g s u z
+  revert_law way wants u cuts is =
+      swap_cycle kinds.Revert wants way (Waits way r.grain r.profile G s (count_of g s)) (Forgotten way r G s (count_of g s)) false (λ same. absurd cc) (λ z l. l.trial)
+      (waiting_strides way r G s (larger_size s) (count_of g s) (pieces_again r.grain g) (in_parts kinds.Revert wants))
+      (waits begin) u cuts is (go way)
+    where
+      p : Trailer
+      p = trailer_of g s Primary
 
-    abbrev Bearing : Content → Type 0
-    Bearing = Reverts r G s (larger_size s) (count_of g s) (pieces_again r.grain g) pieces
+      asks_ : ((is_good p.magic) ≡ true) × ((reverts_at r.profile (trailer_of g s Secondary).magic) ≡ true) × ((is_unset p.image_ok) ≡ true) × ((is_set p.copy_done) ≡ true)
+      asks_ = let table = wants.table in grind arith
 
-    abbrev Ending : Content → Content → Type 0
-    Ending = MadeOrLost r G s (larger_size s) (count_of g s) (pieces_again r.grain g) pieces
+      good : (trailer_of g s Primary).magic ≡ magics.Good
+      good = grind (arith, asks_)
 
-    waits_primary : (u : Content) → Waiting r.grain G s (count_of g s) u → SameImage s.primary u.primary
-    waits_primary u is =
-        image_there G s (larger_size s) (count_of g s) u Primary Primary pieces is.data_.sized (prefix_at_start G s (count_of g s) u Primary pieces.ok pieces.some pieces.at_most is.data_)
+      unset : (trailer_of g s Primary).image_ok ≡ flags.Unset
+      unset = grind (arith, asks_)
 
-    waits_secondary : (u : Content) → Waiting r.grain G s (count_of g s) u → SameImage s.secondary u.secondary
-    waits_secondary u is =
-        image_there G s (larger_size s) (count_of g s) u Secondary Secondary pieces is.data_.sized (prefix_at_start G s (count_of g s) u Secondary pieces.ok pieces.some pieces.at_most is.data_)
+      set : (trailer_of g s Primary).copy_done ≡ flags.Set
+      set = grind (arith, asks_)
 
-    lost_rests : (u z : Content) → is_on_trial (trailer_of g s Primary) ≡ true → LostAt u z → RestsAgain r g s u z
-    lost_rests u z tried l =
-        let one = waits_primary u l.waiting in
-        let two = waits_secondary u l.waiting in
-        let planned : plan (power_on r g u) ≡ nothing kinds.None = sym (plan_in_pieces r g u) ∙ l.planned in
-        let first = fields_whole r.grain g u Primary tested l.waiting.primary in
-        let here = sized_whole r.grain g u l.waiting.data_.sized in
-        let good = reads_good g u Primary ok here (first field.Magic) in
-        let unset = reads_image_ok g u Primary 255 [] (first field.ImageOk) in
-        let set = reads_copy_done g u Primary 1 [] (first field.CopyDone) in
-        rw l.stays (record {
-          leaves = grind arith;
-          rest = rests_same laws g ok s rest u wants.valid here one two set;
-        })
+      reverts : reverts_at r.profile (trailer_of G s Secondary).magic ≡ true
+      reverts = ap (λ (p : Trailer). reverts_at r.profile p.magic) (trailer_pieces r.grain g s Secondary) ∙ asks_.1
 
-    revert_law : (u : Content) (cuts : List ℕ) → after (power_on r g s) cuts ≡ Some u → (z : Content) × EndsWell (power_on r g u) z × RestsAgain r g s u z
-    revert_law u cuts is =
-        let p = trailer_of g s Primary in
-        let q = trailer_of g s Secondary in
-        let asks : ((is_good p.magic) ≡ true) × ((reverts_at r.profile q.magic) ≡ true) × ((is_unset p.image_ok) ≡ true) × ((is_set p.copy_done) ≡ true) = grind arith in
-        let good : p.magic ≡ magics.Good = grind arith in
-        let unset : p.image_ok ≡ flags.Unset = grind arith in
-        let set : p.copy_done ≡ flags.Set = grind arith in
-        let are = tested_from g s good unset set in
-        let planned : plan (power_on r G s) ≡ starting r.grain G kinds.Revert (larger_size s) (count_of g s) =
-        plan_in_pieces r g s ∙ wants.planned
-        ∙ ap (λ (x : Geometry). record { kind = kinds.Revert; sectors = count_of g s; list = new_list r.grain x kinds.Revert (larger_size s) (count_of g s) }) (sym (pieces_again r.grain g)) in
-        let end = cycle r g Bearing Ending
-        (λ t at. revert_steps r G s (larger_size s) (count_of g s) (pieces_again r.grain g) pieces (fields_pieces r.grain g s Primary tested are) planned t at)
-        valid cuts s u (inl (inr refl)) is in
-        (end.0, end.1, rests end.0 (rw good (rw unset (rw set refl))) end.2)
-      where
-        valid : (t z : Content) → Ending t z → is_valid z.primary ≡ true
-        valid t z (inl e) = (held kinds.Revert wants false z e).primary.valid
-        valid t z (inr l) = ap (λ (x : Content). is_valid x.primary) l.stays ∙ (waits_primary t l.waiting).valid
+      begin : Waits way r.grain r.profile G s (count_of g s) s
+      begin = record {
+        trial = record { primary = fields_pieces r.grain g s Primary tested (tested_from g s good unset set); data_ = data_begin G (count_of g s) s (in_parts kinds.Revert wants).sized };
+        other = asks_none r.profile (trailer_of G s Primary) (trailer_of G s Secondary)
+            (let parts = in_parts kinds.Revert wants in quiet_not_good r.grain r.profile G s parts.ok parts.sized (inr reverts));
+        quiet = λ _. inr reverts;
+      }
 
-        rests : (z : Content) → is_on_trial (trailer_of g s Primary) ≡ true → Ending u z → RestsAgain r g s u z
-        rests z tried (inl e) = stays_rests kinds.Revert wants (λ x m n. (m, n)) refl u z e
-        rests z tried (inr l) = lost_rests u z tried l
+      why_is : (z : Content) → IsForgotten r G z ⊎ ((r.profile ≡ profiles.Three) × IsUnclear G z) → IsUnclear g z ⊎ IsForgotten r g z
+      why_is z (inl is) = inr (record { profile = is.profile; magic = ap (λ (p : Trailer). p.magic) (sym (trailer_pieces r.grain g z Secondary)) ∙ is.magic })
+      why_is z (inr is) = inl (unclear_on z is.1)
+
+      forgets : (z : Content) → Forgotten cutting r G s (count_of g s) z → z ≡ u → plan (power_on r G u) ≡ nothing kinds.None → Forgets r g s u z
+      forgets z is same idle =
+          let planned : plan (power_on r g u) ≡ nothing kinds.None = sym (plan_in_pieces r g u) ∙ idle in
+          let tried : is_on_trial (trailer_of g s Primary) ≡ true = rw good (rw unset (rw set refl)) in
+          let there = ap is_on_trial (sym (trailer_pieces r.grain g z Primary)) ∙ is.tried in
+          let dropped = is_dropped kinds.Revert wants z is.trial.data_ u same (ap (λ t. plan (power_on r g t)) same ∙ planned) in
+          record {
+            rules = is.rules refl;
+            next = ap (λ (p : Plan). p.kind) wants.planned;
+            idle = ap (λ (p : Plan). p.list) planned;
+            stays = same;
+            names = same_names (id_of z.primary) (id_of s.primary) (is_on_trial (trailer_of g z Primary)) (is_on_trial (trailer_of g s Primary)) (id_of z.secondary) (id_of s.secondary)
+                (plan (power_on r g z)).kind kinds.None dropped.primary (there ∙ sym tried) dropped.secondary dropped.next;
+          }
+
+      go : (d : Way) (z : Content) → Turned d (Forgotten d r G s (count_of g s)) r G s (larger_size s) (count_of g s) false u z → Makes d r g s u z
+      go cutting z turned = elim (cut_end kinds.Revert wants (Forgotten cutting r G s (count_of g s)) false u z turned) [
+        | inl e ↦ inl (stays_leaves kinds.Revert wants (λ z m n. (m, n)) refl z e)
+        | inr is ↦ inr (forgets z is.0 is.1 is.2)
+      ]
+      go (tearing f) z turned =
+          turns kinds.Revert wants f u z (torn_end kinds.Revert wants (tearing f) (Forgotten (tearing f) r G s (count_of g s)) false (λ z l. l.trial) u z
+          (IsDropped r g (count_of g s) s u z × (IsUnclear g z ⊎ IsForgotten r g z)) (λ is why. (is, elim why [ inl because ↦ inl because.1 | inr l ↦ why_is z l.why ])) turned)
 
   -- whatever the flash asks for
-  pub rest_law : (u : Content) (cuts : List ℕ) → after (power_on r g s) cuts ≡ Some u → (z : Content) × EndsWell (power_on r g u) z × RestsAgain r g s u z
-  rest_law u cuts is = grind (arith, rests_or_wants, idle_law, test_law, perm_law, revert_law)
+  pub rest_law : (way : Way) (u : Content) (cuts : List ℕ) → Losing way (power_on r g s) cuts u → (z : Content) × EndsRested way r g s u z
+  rest_law way u cuts is = go (rests_or_wants (power_on r g s) rest.rest)
+    where
+      go : RestsOrWants (power_on r g s) → (z : Content) × EndsRested way r g s u z
+      go (inl i) = idle_law way r g s rest.primary.same.valid (inl rest) i u cuts is
+      go (inr (inl wants)) = test_law way wants u cuts is
+      go (inr (inr (inl wants))) = perm_law way wants u cuts is
+      go (inr (inr (inr wants))) = revert_law way wants u cuts is

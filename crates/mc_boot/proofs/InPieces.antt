@@ -1,16 +1,11 @@
--- Both grains by one proof, and boots that keep a phase until the swap ends, after any list of cuts.
-use Rattle.std.proofs.Common.{ap, subst, sym, ◌∙◌}
-use Rattle.std.specs.Prelude.{Bool, List, Some, [], refl, true, ℕ, ◌∷◌, ◌≡◌, ◌≢◌}
-use Rattle.mc_boot.proofs.{Keeps.{Keeps, boots_so, ends, restart}, Moving.{data_begin}, Phases.{Asked, Swap, asked}}
-use Rattle.mc_boot.specs.{Life.{EndsWell}, Outcome.{after}, Plan.{Plan, PowerOn, plan, plan_with, power_on}, Restart.{AreExchanged}}
-use Rattle.mc_flash.specs.{Flash.{Content, IsSized, apply}, Geometry.{Geometry, in_pieces}, declared.flash.Grain.{Grain}, declared.op.Op.{Op}}
-use Rattle.mc_flash.specs.{declared.op.Op.TheVariants.{Erase}, declared.op.Slot.TheVariants.{Primary, Secondary}, facts.Pieces.{pieces_layout}}
-use Rattle.mc_flash.specs.declared.op.Slot.{Slot}
-use Rattle.mc_image.specs.Valid.{is_valid}
-use Rattle.mc_trailer.specs.{Trailer.{trailer_of}, declared.places.Field.{Field}, declared.tables.Profile.{Profile}, declared.tables.Rules.{Rules}}
-use Rattle.mc_trailer.specs.facts.Fields.{FieldsAre}
+-- Both grains by one proof: what stands on the layout in pieces stands on the layout itself.
+use Rattle.std.specs.Prelude.{Bool, List, refl, ℕ, ◌≡◌}
+use Rattle.mc_boot.proofs.{Moving.{data_begin}, Phases.{Asked, Swap, asked}}
+use Rattle.mc_boot.specs.{Plan.{plan, plan_with, power_on}, Restart.{AreExchanged}}
+use Rattle.mc_flash.specs.{Flash.{Content, IsSized, apply}, Geometry.{Geometry, in_pieces}, declared.flash.Grain.{Grain}, declared.op.Op.{Op}, declared.op.Op.TheVariants.{Erase}}
+use Rattle.mc_flash.specs.{declared.op.Slot.{Slot}, declared.op.Slot.TheVariants.{Primary, Secondary}, facts.Pieces.{pieces_layout}}
+use Rattle.mc_trailer.specs.{Trailer.{trailer_of}, declared.places.Field.{Field}, declared.tables.Profile.{Profile}, declared.tables.Rules.{Rules}, facts.Fields.{FieldsAre}}
 use Rattle.mc_flash.specs.declared.flash.Grain.TheVariants as grains
-use Rattle.mc_trailer.specs.declared.tables.SwapType.TheVariants as kinds
 
 -- From a layout to the same in the pieces that are written at once: all but the copies is the same.
 
@@ -27,20 +22,17 @@ plan_in_pieces r g s = by_grain r.grain r.profile
     by_grain grains.Unit p = refl
 
 -- the chunk plays no part in what an operation does
-apply_pieces : (c : Grain) (g : Geometry) (op : Op) (s : Content) → apply (in_pieces c g) op s ≡ apply g op s
+pub apply_pieces : (c : Grain) (g : Geometry) (op : Op) (s : Content) → apply (in_pieces c g) op s ≡ apply g op s
 unfolding apply
 apply_pieces grains.Call g op s = refl
 apply_pieces grains.Unit g (Erase slot sector) s = refl
 apply_pieces grains.Unit g op s = refl
 
-pub keeps_pieces : (c : Grain) (g : Geometry) (P Q : Content → Type 0) (ops : List Op) (s : Content) → Keeps (in_pieces c g) P ops s Q → Keeps g P ops s Q
-keeps_pieces c g P Q [] s k = k
-keeps_pieces c g P Q (op ∷ ops) s k = (k.0, (k.1.0, sym (apply_pieces c g op s) ∙ k.1.1, keeps_pieces c g P Q ops k.1.0 k.1.2))
-
-pub trailer_pieces : (c : Grain) (g : Geometry) (s : Content) → trailer_of (in_pieces c g) s Primary ≡ trailer_of g s Primary
+pub trailer_pieces : (c : Grain) (g : Geometry) (s : Content) (slot : Slot) → trailer_of (in_pieces c g) s slot ≡ trailer_of g s slot
 unfolding trailer_of
-trailer_pieces grains.Call g s = refl
-trailer_pieces grains.Unit g s = refl
+trailer_pieces grains.Call g s slot = refl
+trailer_pieces grains.Unit g s Primary = refl
+trailer_pieces grains.Unit g s Secondary = refl
 
 pub exchanged_pieces : (c : Grain) (g : Geometry) (n : ℕ) (s z : Content) → AreExchanged (in_pieces c g) n s z → AreExchanged g n s z
 exchanged_pieces grains.Call g n s z are = are
@@ -83,44 +75,3 @@ fields_whole grains.Unit g s Secondary v are = λ f i short within. are f i shor
 
 pub asked_pieces : (c : Grain) (g : Geometry) (start : Content) (n : ℕ) (b : Bool) → IsSized g start → FieldsAre g start Secondary (asked b) → Asked (in_pieces c g) start n b start
 asked_pieces c g start n b sized are = record { secondary = fields_pieces c g start Secondary (asked b) are; data_ = data_begin (in_pieces c g) n start (sized_pieces c g start sized) }
-
--- Power-on after power-on: what holds before each operation, whatever the boots are, and what the last leaves.
-
--- The boot from x keeps P, and ends in Q.
-pub record Steps (x : PowerOn) (P Q : Content → Type 0) : Type 0 where
-  pub keeps : Keeps x.geometry P (plan x).list x.content Q
-  pub not_panic : (plan x).kind ≢ kinds.Panic
-
-pub steps_by : (x : PowerOn) (P Q : Content → Type 0) (p : Plan) → plan x ≡ p → p.kind ≢ kinds.Panic → Keeps x.geometry P p.list x.content Q → Steps x P Q
-steps_by x P Q p is not_panic keeps = record {
-  keeps = let E : Plan → Type 0 = λ q. Keeps x.geometry P q.list x.content Q in subst E (sym is) keeps;
-  not_panic = λ panic. not_panic (ap (λ (q : Plan). q.kind) (sym is) ∙ panic);
-}
-
--- the same, said weaker
-pub keeps_more : (g : Geometry) (P P' Q Q' : Content → Type 0) (ops : List Op) (s : Content) → ((t : Content) → P t → P' t) → ((t : Content) → Q t → Q' t) → Keeps g P ops s Q → Keeps g P' ops s Q'
-keeps_more g P P' Q Q' [] s more end k = end s k
-keeps_more g P P' Q Q' (op ∷ ops) s more end k = (more s k.0, (k.1.0, k.1.1, keeps_more g P P' Q Q' ops k.1.0 more end k.1.2))
-
--- After every list of cuts the boot from u ends well, and in Q u.
-pub cycle : (r : Rules) (g : Geometry) (P : Content → Type 0) (Q : Content → Content → Type 0) → ((t : Content) → P t → Steps (power_on r (in_pieces r.grain g) t) P (Q t))
-    → ((t z : Content) → Q t z → is_valid z.primary ≡ true) → (cuts : List ℕ) (s u : Content) → P s → after (power_on r g s) cuts ≡ Some u → (z : Content) × EndsWell (power_on r g u) z × Q u z
-cycle r g P Q boots valid cuts s u begin is =
-    let at_u = restart r g P (λ z. Unit {0}) (λ t at. keeps_more g P P (Q t) (λ z. Unit {0}) (plan (power_on r g t)).list t (λ x k. k) (λ x k. tt) (keeps_on t at)) cuts s u begin is in
-    let end = ends r g P (Q u) u (keeps_on u at_u) in
-    let not_panic : (plan (power_on r g u)).kind ≢ kinds.Panic = λ panic. (boots u at_u).not_panic (ap (λ (q : Plan). q.kind) (plan_in_pieces r g u) ∙ panic) in (
-      end.0,
-      record {
-        end = end.1.end;
-        whole = end.1.whole;
-        not_panic = not_panic;
-        result = boots_so (power_on r g u) end.0 end.1.end end.1.whole not_panic (valid u end.0 end.1.so);
-        valid = valid u end.0 end.1.so;
-      },
-      end.1.so,
-    )
-  where
-    keeps_on : (t : Content) → P t → Keeps g P (plan (power_on r g t)).list t (Q t)
-    keeps_on t at =
-        keeps_pieces r.grain g P (Q t) (plan (power_on r g t)).list t
-        (let E : Plan → Type 0 = λ q. Keeps (in_pieces r.grain g) P q.list t (Q t) in subst E (plan_in_pieces r g t) (boots t at).keeps)

@@ -1,19 +1,15 @@
 -- What operations keep: a phase, operation by operation, through erases, writes in pieces and boots that are not cut.
-use Rattle.std.proofs.{Common.{ap, arith, inl, inr, subst, sym, ◌∙◌, zero-add}, Math.Nat.{mod-add-div', mul-le-mul_right, zero-mul}, lemmas.Bool.{cases_lt}}
-use Rattle.std.proofs.{lemmas.Bool.Decides.{nat_tests}, lemmas.List.{get_or-replicate, get_or-take, length-replicate, length-take-le}}
-use Rattle.std.proofs.lemmas.List.Edits.{get_or-between, length-between}
+use Rattle.std.proofs.{Common.{ap, arith, inl, inr, subst, sym, zero-add, ◌∙◌}, Math.Nat.{mod-add-div', mul-le-mul_right, zero-mul}, lemmas.Bool.{cases_lt}, lemmas.Bool.Decides.{nat_tests}}
+use Rattle.std.proofs.{lemmas.List.{get_or-replicate, get_or-take, length-replicate, length-take-le}, lemmas.List.Edits.{get_or-between, length-between}}
 use Rattle.std.specs.List.{between, range_with_len}
-use Rattle.std.specs.Prelude.{Bool, List, None, Some, [], false, if◌then◌else◌, length, map, nat_lt, option_and_then, option_map, refl, replicate, slice_index, suc, take, true, zero, ℕ, ◌%◌, ◌*◌, ◌++◌, ◌+◌, ◌-◌, ◌/◌, ◌<◌, ◌∷◌, ◌≡◌, ◌≢◌, ◌≤◌}
-use Rattle.mc_boot.specs.Outcome.{after, applied, at, first_then, happening, is_faulted, left_by, ops_of, outcome_of, report}
-use Rattle.mc_boot.specs.Plan.{PowerOn, piece, plan, power_on, trailer_erase, trailer_erases, write}
-use Rattle.mc_flash.specs.{Flash.{Content, IsSized, apply, byte, bytes_of, sectors_of, size_of}, Geometry.{Geometry, IsLayout, trailer_sectors}}
-use Rattle.mc_flash.specs.{declared.flash.Grain.{Grain}, declared.op.Op.{Op}, declared.op.Op.TheVariants.{Program}, declared.op.Slot.{Slot}}
-use Rattle.mc_flash.specs.facts.Changes.{Changed, erase_changes, program_changes, sized_is}
+use Rattle.std.specs.Prelude.{List, Some, [], false, length, map, nat_lt, option_and_then, option_map, refl, replicate, slice_index, suc, take, true, zero, ℕ, ◌%◌, ◌*◌, ◌++◌, ◌+◌, ◌-◌, ◌/◌, ◌<◌, ◌∷◌, ◌≡◌, ◌≢◌, ◌≤◌}
+use Rattle.mc_boot.specs.{Outcome.{applied, at, first_then, happening, is_faulted, left_by, ops_of, outcome_of, report}, Plan.{PowerOn, piece, plan, power_on, write}}
+use Rattle.mc_flash.specs.{Flash.{Content, IsSized, apply, byte, bytes_of, sectors_of, size_of}, Geometry.{Geometry, IsLayout, trailer_sectors}, declared.flash.Grain.{Grain}, declared.op.Op.{Op}}
+use Rattle.mc_flash.specs.{declared.op.Op.TheVariants.{Program}, declared.op.Slot.{Slot}, facts.Changes.{Changed, program_changes, sized_is}}
 use Rattle.mc_flash.specs.facts.Layouts.{data_end, sector_inside, trailer_leaves_one}
 use Rattle.mc_image.specs.Valid.{is_valid}
-use Rattle.mc_trailer.specs.{Trailer.{place, room}, declared.places.Field.{Field}, declared.tables.Rules.{Rules}}
-use Rattle.mc_trailer.specs.{facts.Fields.{FieldIs, blank_byte, field_write}, facts.Places.{field_beyond_data, field_ends}}
-use borrow.Author.Tests.{ltb-true}
+use Rattle.mc_trailer.specs.{Trailer.{place, room}, declared.places.Field.{Field}, declared.tables.Rules.{Rules}, facts.Fields.{FieldIs, blank_byte, field_write}}
+use Rattle.mc_trailer.specs.facts.Places.{field_beyond_data, field_ends, most_before_end, place_inside}
 use lib.Seq.{take-length, take_all}
 use Rattle.mc_flash.specs.declared.flash.Grain.TheVariants as grains
 use Rattle.mc_trailer.specs.declared.tables.SwapType.TheVariants as kinds
@@ -52,46 +48,15 @@ keeps_end g P Q (op ∷ ops) s k =
     let end = keeps_end g P Q ops k.1.0 k.1.2 in
     (end.0, ap (option_and_then (λ t. applied g ops t)) k.1.1 ∙ end.1, end.2)
 
--- what a cut leaves
-pub keeps_cut : (g : Geometry) (P Q : Content → Type 0) (ops : List Op) (s : Content) (c : ℕ) → c < length ops → Keeps g P ops s Q → (t : Content) × (applied g (take c ops) s ≡ Some t) × P t
-keeps_cut g P Q [] s c below k = absurd (omega arith)
-keeps_cut g P Q (op ∷ ops) s zero below k = (s, refl, k.0)
-keeps_cut g P Q (op ∷ ops) s (suc c) below k =
-    let rest = keeps_cut g P Q ops k.1.0 c (omega arith) k.1.2 in
-    (rest.0, ap (option_and_then (λ t. applied g (take c ops) t)) k.1.1 ∙ rest.1, rest.2)
-
 -- the same of a boot's plan
 pub keeps_boot : (r : Rules) (g : Geometry) (P Q : Content → Type 0) (s : Content) → Keeps g P (plan (power_on r g s)).list s Q → ops_of (power_on r g s) ≡ (plan (power_on r g s)).list
 unfolding ops_of
 keeps_boot r g P Q s k = keeps_whole g P Q (plan (power_on r g s)).list s k
 
-pub keeps_at : (r : Rules) (g : Geometry) (P Q : Content → Type 0) (s : Content) (c : ℕ) → c < length (ops_of (power_on r g s)) → Keeps g P (plan (power_on r g s)).list s Q → (t : Content)
-    × (at (power_on r g s) c ≡ Some t) × P t
-unfolding at
-keeps_at r g P Q s c below k =
-    let whole = keeps_boot r g P Q s k in
-    let cut = keeps_cut g P Q (plan (power_on r g s)).list s c (omega (arith, below, ap (λ (l : List Op). length l) whole)) k in
-    (cut.0, ap (λ (l : List Op). applied g (take c l) s) whole ∙ cut.1, cut.2)
-
--- Where each boot keeps P, P holds after every list of cuts.
-pub restart : (r : Rules) (g : Geometry) (P Q : Content → Type 0) → ((s : Content) → P s → Keeps g P (plan (power_on r g s)).list s Q) → (cuts : List ℕ) (s t : Content) → P s
-    → after (power_on r g s) cuts ≡ Some t → P t
-restart r g P Q boot [] s t p is = let same : s ≡ t = cc in subst P same p
-restart r g P Q boot (c ∷ cuts) s t p is = go (restart r g P Q boot cuts) (nat_lt c (length (ops_of (power_on r g s)))) refl
-  where
-    go : ((u v : Content) → P u → after (power_on r g u) cuts ≡ Some v → P v) → (b : Bool) → nat_lt c (length (ops_of (power_on r g s))) ≡ b → P t
-    go later false no_cut =
-        let e : option_and_then (λ t. after (power_on r g t) cuts) (if false then at (power_on r g s) c else None) ≡ Some t =
-        ap (λ b. option_and_then (λ t. after (power_on r g t) cuts) (if b then at (power_on r g s) c else None)) (sym no_cut) ∙ is in
-        absurd cc
-    go later true can =
-        let cut = keeps_at r g P Q s c (ltb-true c (length (ops_of (power_on r g s))) can) (boot s p) in
-        grind arith
-
--- the same end, said weaker
-pub keeps_then : (g : Geometry) (P Q R : Content → Type 0) (ops : List Op) (s : Content) → ((t : Content) → Q t → R t) → Keeps g P ops s Q → Keeps g P ops s R
-keeps_then g P Q R [] s then_ k = then_ s k
-keeps_then g P Q R (op ∷ ops) s then_ k = (k.0, (k.1.0, k.1.1, keeps_then g P Q R ops k.1.0 then_ k.1.2))
+-- the same, said weaker
+pub keeps_more : (g : Geometry) (P P' Q Q' : Content → Type 0) (ops : List Op) (s : Content) → ((t : Content) → P t → P' t) → ((t : Content) → Q t → Q' t) → Keeps g P ops s Q → Keeps g P' ops s Q'
+keeps_more g P P' Q Q' [] s more end k = end s k
+keeps_more g P P' Q Q' (op ∷ ops) s more end k = (more s k.0, (k.1.0, k.1.1, keeps_more g P P' Q Q' ops k.1.0 more end k.1.2))
 
 -- The erases of a trailer.
 
@@ -115,36 +80,16 @@ erased_here g slot i s t p ch from below = at ((sectors_of g slot - 1 - i) * g.s
 pub erased_still : (g : Geometry) (slot : Slot) (i : ℕ) (s t : Content) (p : ℕ) → Erased g slot i s t → byte s slot p ≡ 255 → byte t slot p ≡ 255
 erased_still g slot i s t p ch was = grind (arith, cases_lt, erased_here, length-replicate)
 
--- R holds before the i-th erase; after the last the slot is 0xff after its data sectors.
-pub erases_keep : (g : Geometry) (slot : Slot) (P : Content → Type 0) (R : ℕ → Content → Type 0) (s : Content) → IsLayout g
-    → ((i : ℕ) (t : Content) → R i t → P t × IsSized g t)
-    → ((i : ℕ) (t u : Content) → i < trailer_sectors g → R i t → Erased g slot i t u → R (i + 1) u)
-    → R 0 s → Keeps g P (trailer_erases g slot) s (λ t. R (trailer_sectors g) t × ((p : ℕ) → data_end g slot ≤ p → p < size_of g slot → byte t slot p ≡ 255))
-erases_keep g slot P R s ok bears step begin =
-    rw (zero-add (trailer_sectors g)) at (keeps_range g P K (trailer_erase g slot) 0 (trailer_sectors g) s
-    (λ i t h k. let does = erase_changes g t slot (sectors_of g slot - 1 - i) (fits i t (omega (arith, h)) (bears i t k.0).1) in
-    ((bears i t k.0).0, (does.0, does.1, (step i t does.0 (omega (arith, h)) k.0 does.2, more i t does.0 (omega (arith, h)) does.2 k.1))))
-    (begin, λ p from below. absurd (nothing p from below)))
+-- a field stands in the last sector
+pub field_in_last : (g : Geometry) (slot : Slot) (f : Field) (i : ℕ) → IsLayout g → i < room f
+    → ((sectors_of g slot - 1 - 0) * g.sector ≤ place g slot f + i) × (place g slot f + i < (sectors_of g slot - 1 - 0) * g.sector + g.sector)
+field_in_last g slot f i ok within = at (sectors_of g slot - 1 - 0) (let leaves = trailer_leaves_one g slot ok in omega arith)
   where
-    K : ℕ → Content → Type 0
-    K i t = R i t × ((p : ℕ) → (sectors_of g slot - i) * g.sector ≤ p → p < size_of g slot → byte t slot p ≡ 255)
-
-    nothing : (p : ℕ) → (sectors_of g slot - 0) * g.sector ≤ p → p < size_of g slot → ⊥
-    nothing p from below =
-        let whole : (sectors_of g slot - 0) * g.sector ≡ sectors_of g slot * g.sector = ap (λ n. n * g.sector) (omega arith) in
-        omega (arith, whole, from, below)
-
-    fits : (i : ℕ) (t : Content) → i < trailer_sectors g → IsSized g t → (sectors_of g slot - 1 - i) * g.sector + g.sector ≤ length (bytes_of t slot)
-    fits i t below sized = omega (arith, erase_inside g slot i ok below, sized_is g t slot sized)
-
-    next_sector : (i : ℕ) → i < trailer_sectors g → (sectors_of g slot - i) * g.sector ≡ (sectors_of g slot - 1 - i) * g.sector + g.sector
-    next_sector i below =
-        let up : sectors_of g slot - i ≡ sectors_of g slot - 1 - i + 1 = (let leaves = trailer_leaves_one g slot ok in omega arith) in
-        ap (λ n. n * g.sector) up ∙ omega arith
-
-    more : (i : ℕ) (t u : Content) → i < trailer_sectors g → Erased g slot i t u → ((p : ℕ) → (sectors_of g slot - i) * g.sector ≤ p → p < size_of g slot → byte t slot p ≡ 255) → (p : ℕ)
-        → (sectors_of g slot - (i + 1)) * g.sector ≤ p → p < size_of g slot → byte u slot p ≡ 255
-    more i t u below ch was p from short = grind (arith, cases_lt, erased_here, next_sector, erased_still)
+    at : (k : ℕ) → sectors_of g slot ≡ k + 1 → (k * g.sector ≤ place g slot f + i) × (place g slot f + i < k * g.sector + g.sector)
+    at k e =
+        let rows : sectors_of g slot * g.sector ≡ (k + 1) * g.sector = ap (λ n. n * g.sector) e in
+        let least = ok.least_sector in
+        (omega (arith, rows, least, place_inside g slot f ok, most_before_end f), omega (arith, rows, within, field_ends g slot f ok))
 
 -- A write in pieces of one unit: what it changes is what one write of all the bytes changes.
 

@@ -1,16 +1,13 @@
 -- A transfer whole and in pieces, and the bytes of the sectors on the way of a swap.
-use Rattle.std.proofs.{Common.{add_assoc, ap, arith, inl, inr, subst, sym, ◌∙◌, zero-add}, Math.Nat.{mul-le-mul_right}, lemmas.Bool.{cases_eq, cases_lt}}
-use Rattle.std.proofs.{lemmas.List.{length-replicate, get_or-replicate}, lemmas.List.Edits.{get_or-between, length-between}}
-use Rattle.std.specs.{List.{between, range_with_len}, Prelude.{List, Some, [], length, map, refl, slice_get, ℕ, ◌*◌, ◌+◌, ◌-◌, ◌/◌, ◌<◌, ◌∷◌, ◌≡◌, ◌≤◌, ◌⊎◌}}
-use Rattle.mc_boot.proofs.{Courses.{can_chunk}, Keeps.{Keeps, keeps_append, keeps_range}}
-use Rattle.mc_boot.proofs.Transfers.{Fits, Held, fits_at, held_after, held_at, held_begin, held_here, held_next, same_transfer}
-use Rattle.mc_boot.proofs.Meets.{which_slot}
-use Rattle.mc_boot.specs.{Boot.{IsInside}, Plan.{copy_of, entry_of, steps, transfers}, declared.transfer.Transfer.{Transfer}}
-use Rattle.mc_flash.specs.{Flash.{Content, IsSized, apply, byte, bytes_of, sectors_of}, Geometry.{Geometry, IsLayout, greatest_sectors}}
-use Rattle.mc_flash.specs.{declared.op.Op.TheVariants.{Copy, Erase}, declared.op.Slot.{Slot}, declared.op.Slot.TheVariants.{Primary}}
-use Rattle.mc_flash.specs.facts.Changes.{Changed, changed_sized, copied, copy_is_program, erase_changes, length-copied, program_changes, sized_is}
+use Rattle.std.proofs.{Common.{add_assoc, ap, arith, inl, inr, subst, sym, zero-add, ◌∙◌}, Math.Nat.{mul-le-mul_right}, lemmas.Bool.{cases_eq, cases_lt}}
+use Rattle.std.proofs.{lemmas.List.{get_or-replicate, length-replicate}, lemmas.List.Edits.{get_or-between, length-between}}
+use Rattle.std.specs.{List.{between, range_with_len}, Prelude.{List, Some, length, map, refl, slice_get, ℕ, ◌*◌, ◌+◌, ◌-◌, ◌/◌, ◌<◌, ◌≡◌, ◌≤◌, ◌⊎◌}}
+use Rattle.mc_boot.proofs.{Courses.{can_chunk}, Keeps.{Keeps, keeps_range}, Meets.{which_slot}, Transfers.{Fits, Held, fits_at, held_after, held_at, held_begin, held_here, held_next, same_transfer}}
+use Rattle.mc_boot.specs.{Boot.{IsInside}, Plan.{copy_of, transfers}, declared.transfer.Transfer.{Transfer}}
+use Rattle.mc_flash.specs.{Flash.{Content, IsSized, apply, byte, bytes_of, sectors_of}, Geometry.{Geometry, IsLayout, greatest_sectors}, declared.op.Op.TheVariants.{Copy, Erase}}
+use Rattle.mc_flash.specs.{declared.op.Slot.{Slot}, facts.Changes.{Changed, changed_sized, copied, copy_is_program, erase_changes, length-copied, program_changes, sized_is}}
 use Rattle.mc_flash.specs.facts.Layouts.{chunks_cover, data_end, data_sectors}
-use Rattle.mc_trailer.specs.{Trailer.{entry_place, one_unit, room}, facts.Places.{entry_ends, one_unit_len}}
+use Rattle.mc_trailer.specs.Trailer.{room}
 
 -- A transfer, byte by byte.
 
@@ -99,36 +96,6 @@ erase_step g s x ok inside sized =
       },
     )
 
--- A whole transfer: the target is the source, the entry is written, and nothing else changes.
-
--- after the transfer
-pub record Transferred (g : Geometry) (s v : Content) (x : Transfer) : Type 0 where
-  pub before_entry : Content
-  pub copied : Copied g s before_entry x (g.sector / g.chunk)
-  pub written : Changed before_entry v Primary (entry_place g x.entry) (one_unit g 1)
-
-pub transfer_keeps : (g : Geometry) (P : Content → Type 0) (s : Content) (x : Transfer) → IsLayout g → IsInside g x → IsSized g s
-    → ((i : ℕ) → i < g.unit → byte s Primary (entry_place g x.entry + i) ≡ 255)
-    → ((i : ℕ) → i < g.unit → IsOutside g x.to x.to_sector Primary (entry_place g x.entry + i))
-    → P s → ((u : Content) (c : ℕ) → Copied g s u x c → P u)
-    → Keeps g P (steps g x) s (λ v. Transferred g s v x)
-transfer_keeps g P s x ok inside sized blank outside p bears =
-    let begin = erase_step g s x ok inside sized in (
-      p,
-      (
-        begin.0,
-        begin.1,
-        keeps_append g P (λ u. Copied g s u x (g.sector / g.chunk)) (λ v. Transferred g s v x) (map (copy_of g x) (range_with_len 0 (g.sector / g.chunk))) (entry_of g x ∷ []) begin.0
-            (copies_keep g P s begin.0 x ok inside bears begin.2)
-            (λ u k.
-            let len : length (one_unit g 1) ≡ g.unit = one_unit_len g 1 ok in
-            let does = program_changes g u Primary (entry_place g x.entry) (one_unit g 1)
-            (omega (arith, len, entry_ends g x.entry ok inside.entry, sized_is g u Primary k.sized))
-            (λ i h. k.elsewhere Primary (entry_place g x.entry + i) (outside i (omega (arith, h, len))) ∙ blank i (omega (arith, h, len))) in
-            (bears u (g.sector / g.chunk) k, (does.0, does.1, record { before_entry = u; copied = k; written = does.2 }))),
-      ),
-    )
-
 -- The data sectors hold what the start's sectors held.
 
 -- no target of the k-th transfer
@@ -168,15 +135,8 @@ other_sector g i j m differ short = elim (cases_lt i j) [
   | inr high ↦ inr (let rows : (j + 1) * g.sector ≤ i * g.sector = mul-le-mul_right g.sector (omega (arith, high, differ)) in omega (arith, rows))
 ]
 
-away_outside : (g : Geometry) (x : Transfer) (o : Slot) (i m : ℕ) → (o ≡ x.to → i ≡ x.to_sector → ⊥) → m < g.sector → IsOutside g x.to x.to_sector o (i * g.sector + m)
+pub away_outside : (g : Geometry) (x : Transfer) (o : Slot) (i m : ℕ) → (o ≡ x.to → i ≡ x.to_sector → ⊥) → m < g.sector → IsOutside g x.to x.to_sector o (i * g.sector + m)
 away_outside g x o i m away short same = other_sector g i x.to_sector m (away same) short
-
--- a target that is erased and written in part
-pub data_half : (g : Geometry) (n : ℕ) (start : Content) (k c : ℕ) (s u : Content) (x : Transfer) → slice_get (transfers g n) k ≡ Some x → Data g n start k s → Copied g s u x c → Data g n start k u
-data_half g n start k c s u x at data_ so = record {
-  sized = so.sized;
-  held = λ o i m below short away. so.elsewhere o (i * g.sector + m) (away_outside g x o i m (away x at) short) ∙ data_.held o i m below short away;
-}
 
 -- The source of a transfer is not its target.
 source_no_target : (g : Geometry) (n k : ℕ) (x : Transfer) → slice_get (transfers g n) k ≡ Some x → IsInside g x → IsNoTarget g n k x.from x.from_sector

@@ -1,19 +1,17 @@
 -- The phases of a swap, the plan of the boot in each, and fields by what is read of them.
-use Rattle.std.proofs.{Common.{ap, arith, inl, inr, sym, ◌∙◌}, lemmas.List.Edits.{get_or-between}}
-use Rattle.std.proofs.lemmas.Slice.Eq.{bytes_eq-Decides}
+use Rattle.std.proofs.{Common.{ap, arith, sym, ◌∙◌}, lemmas.List.Edits.{get_or-between}, lemmas.Slice.Eq.{bytes_eq-Decides}}
 use Rattle.std.specs.Int.{div_ceil}
-use Rattle.std.specs.Prelude.{Bool, List, Option, Some, [], false, if◌then◌else◌, is_none, max, refl, replicate, suc, true, zero, ℕ, ◌*◌, ◌+◌, ◌-◌, ◌<◌, ◌==◌, ◌^◌, ◌∷◌, ◌≡◌, ◌≤◌, ◌⊎◌}
-use Rattle.mc_boot.proofs.{Images.{HasImage, ImageLaws}, Moving.{Data}, Plans.{plan_new, plan_resumed}}
-use Rattle.mc_boot.proofs.Transfers.{Entries, entries_last, entries_not, left_at, other_number}
+use Rattle.std.specs.Prelude.{Bool, List, Option, Some, [], false, if◌then◌else◌, is_none, max, refl, replicate, suc, true, zero, ℕ, ◌*◌, ◌+◌, ◌-◌, ◌<◌, ◌==◌, ◌^◌, ◌∷◌, ◌≡◌, ◌≢◌, ◌≤◌}
+use Rattle.mc_boot.proofs.{Images.{HasImage, ImageLaws}, Moving.{Data}, Plans.{plan_new, plan_resumed}, Transfers.{Entries, entries_last, entries_not, left_at, other_number}}
 use Rattle.mc_boot.specs.Plan.{Plan, PowerOn, again, confirms, first_left, image_size, images_of, is_test, new_list, new_plan, new_swap, nothing, number_of, plan, resumed_list}
 use Rattle.mc_boot.specs.{Restart.{forgets_reverts}, declared.image.Images.{Images}}
-use Rattle.mc_flash.specs.{Flash.{Content, IsSized, byte}, Geometry.{Geometry, IsLayout, greatest_sectors, in_pieces}, declared.flash.Grain.{Grain}}
-use Rattle.mc_flash.specs.{declared.op.Slot.{Slot}, declared.op.Slot.TheVariants.{Primary, Secondary}}
+use Rattle.mc_flash.specs.{Flash.{Content, IsSized, byte}, Geometry.{Geometry, IsLayout, greatest_sectors, in_pieces}, declared.flash.Grain.{Grain}, declared.op.Slot.{Slot}}
+use Rattle.mc_flash.specs.declared.op.Slot.TheVariants.{Primary, Secondary}
 use Rattle.mc_image.specs.Valid.{is_valid}
-use Rattle.mc_trailer.specs.Tables.{is_resumed, reverts_at, table_of}
-use Rattle.mc_trailer.specs.{Trailer.{highest_entry, magic_bytes, magic_of, one_unit, place, size_bytes, trailer_of}, declared.places.Field.{Field}}
-use Rattle.mc_trailer.specs.{declared.tables.Profile.{Profile}, declared.tables.SwapType.{SwapType}, declared.trailer.Flag.{Flag}}
+use Rattle.mc_trailer.specs.{Tables.{asks_another, is_resumed, reverts_at, table_of}, Trailer.{highest_entry, magic_bytes, magic_of, one_unit, place, size_bytes, trailer_of}}
+use Rattle.mc_trailer.specs.{declared.places.Field.{Field}, declared.tables.Profile.{Profile}, declared.tables.SwapType.{SwapType}, declared.trailer.Flag.{Flag}}
 use Rattle.mc_trailer.specs.facts.Fields.{FieldIs, FieldsAre, blank_fields, field_as, reads_absent, reads_copy_done, reads_good, reads_image_ok, reads_info, reads_not_good, reads_size}
+use Rattle.mc_trailer.specs.facts.Tables.{asks_clearly}
 use Rattle.mc_trailer.specs.declared.places.Field.TheVariants as field
 use Rattle.mc_trailer.specs.declared.trailer.Flag.TheVariants as flags
 use Rattle.mc_flash.specs.declared.flash.Grain.TheVariants as grains
@@ -75,17 +73,11 @@ tested field.ImageOk = 255 ∷ []
 tested field.CopyDone = 1 ∷ []
 tested f = []
 
--- The secondary's magic while a revert is prepared: unset; where a unit is written at once, only its last byte is 0xff for
--- sure, since it is written upward.
-abbrev pub MagicUnset : Grain → Geometry → Content → Type 0
-MagicUnset grains.Call g s = FieldIs g s Secondary field.Magic (replicate 16 255)
-MagicUnset grains.Unit g s = byte s Secondary (place g Secondary field.Magic + 15) ≡ 255
-
--- a test is to be reverted
-pub record Waiting (c : Grain) (g : Geometry) (start : Content) (n : ℕ) (s : Content) : Type 0 where
-  pub primary : FieldsAre g s Primary tested
-  pub magic_unset : MagicUnset c g s
-  pub data_ : Data g n start 0 s
+-- The magic of a trailer while it is made: unset; where a unit is written at once, only its last byte is 0xff for sure, since it is
+-- written upward.
+abbrev pub MagicUnset : Grain → Geometry → Slot → Content → Type 0
+MagicUnset grains.Call g slot s = FieldIs g s slot field.Magic (replicate 16 255)
+MagicUnset grains.Unit g slot s = byte s slot (place g slot field.Magic + 15) ≡ 255
 
 -- a swap is asked for; the primary's trailer may hold anything
 pub record Asked (g : Geometry) (start : Content) (n : ℕ) (b : Bool) (s : Content) : Type 0 where
@@ -99,36 +91,23 @@ pub record Under (g : Geometry) (start : Content) (size n : ℕ) (kind : SwapTyp
   pub secondary : FieldsAre g s Secondary unasked
   pub data_ : Data g n start k s
 
+-- no other swap is asked for
+abbrev pub NoOther : Profile → Geometry → Content → Type 0
+NoOther p g s = asks_another p (trailer_of g s Primary) (trailer_of g s Secondary) ≡ false
+
 -- the swap is made
 pub record Done (g : Geometry) (start : Content) (size n : ℕ) (kind : SwapType) (s : Content) : Type 0 where
   pub primary : FieldsAre g s Primary (closed g kind size)
   pub secondary : FieldsAre g s Secondary unasked
   pub data_ : Data g n start (3 * n) s
 
--- The phases. R is what holds before a swap is asked for: that a revert waits, or nothing can hold.
-abbrev pub Phase : (Content → Type 0) → Geometry → Content → ℕ → ℕ → Bool → Content → Type 0
-Phase R g start size n b s =
-    R s
-    ⊎ (Asked g start n b s
-    ⊎ ((kind : SwapType) × (k : ℕ) × IsSwapOf b kind × (k ≤ 3 * n) × Under g start size n kind k s))
-
 abbrev pub Ended : Geometry → Content → ℕ → ℕ → Bool → Content → Type 0
 Ended g start size n b s = (kind : SwapType) × IsSwapOf b kind × Done g start size n kind s
-
-pub waits : (R : Content → Type 0) (g : Geometry) (start : Content) (size n : ℕ) (b : Bool) (s : Content) → R s → Phase R g start size n b s
-waits R g start size n b s is = inl is
-
-pub asks : (R : Content → Type 0) (g : Geometry) (start : Content) (size n : ℕ) (b : Bool) (s : Content) → Asked g start n b s → Phase R g start size n b s
-asks R g start size n b s is = inr (inl is)
-
-pub runs : (R : Content → Type 0) (g : Geometry) (start : Content) (size n : ℕ) (b : Bool) (kind : SwapType) (k : ℕ) (s : Content) → IsSwapOf b kind → k ≤ 3 * n → Under g start size n kind k s
-    → Phase R g start size n b s
-runs R g start size n b kind k s of most is = inr (inr (kind, k, of, most, is))
 
 -- The plan of each phase.
 
 -- a plan where the boot does not resume
-pub new_is : (x : PowerOn) (kind : SwapType) (p : Plan) → is_resumed x.geometry x.content ≡ false → table_of x.rules.profile x.geometry x.content ≡ kind
+pub new_is : (x : PowerOn) (kind : SwapType) (p : Plan) → is_resumed x.rules.profile x.geometry x.content ≡ false → table_of x.rules.profile x.geometry x.content ≡ kind
     → new_plan x.rules.grain x.geometry (images_of x.content) kind ≡ p → plan x ≡ p
 new_is x kind p not_so of is = plan_new x not_so ∙ ap (new_plan x.rules.grain x.geometry (images_of x.content)) of ∙ is
 
@@ -139,11 +118,11 @@ swap_of b kind of = grind arith
 abbrev pub running : Geometry → SwapType → ℕ → ℕ → Bool → Plan
 running g kind n k erases = record { kind = kind; sectors = n; list = resumed_list g n k erases false }
 
-confirms_not : (b : Bool) (kind : SwapType) (image_ok : Flag) → is_test kind ≡ b → (b ≡ false → image_ok ≡ flags.Set) → confirms kind image_ok ≡ false
+pub confirms_not : (b : Bool) (kind : SwapType) (image_ok : Flag) → is_test kind ≡ b → (b ≡ false → image_ok ≡ flags.Set) → confirms kind image_ok ≡ false
 confirms_not it kind image_ok of set = grind arith
 
 -- what the entries show: the first transfer that is left, and whether any is made
-found : (g : Geometry) (n k : ℕ) (s : Content) → IsLayout g → IsSized g s → n ≤ greatest_sectors g → k ≤ 3 * n → Entries g n k s → (first_left g n (highest_entry g s) ≡ Some k)
+pub found : (g : Geometry) (n k : ℕ) (s : Content) → IsLayout g → IsSized g s → n ≤ greatest_sectors g → k ≤ 3 * n → Entries g n k s → (first_left g n (highest_entry g s) ≡ Some k)
     × (is_none (highest_entry g s) ≡ (k == 0))
 found g n zero s ok sized at_most most en = let none = entries_not g n s ok sized en in (ap (first_left g n) none, ap (λ (o : Option ℕ). is_none o) none)
 found g n (suc j) s ok sized at_most most en =
@@ -158,19 +137,18 @@ image_ok_is g s kind true of is = reads_image_ok g s Primary 255 (replicate 7 25
 image_ok_is g s kind false of is = reads_image_ok g s Primary 1 (replicate (g.unit - 1) 255)
     (field_as g s Primary field.ImageOk _ (one_unit g 1) (ap (λ (c : Bool). if c then replicate 8 255 else one_unit g 1) of) is)
 
-pub plan_under : (x : PowerOn) (size n : ℕ) (b : Bool) (kind : SwapType) (k : ℕ) (s : Content) → Swap x.geometry x.content size n → IsSwapOf b kind → k ≤ 3 * n
-    → Under x.geometry x.content size n kind k s → plan (again x s) ≡ running (in_pieces x.rules.grain x.geometry) kind n k (k == 0)
-plan_under x size n b kind k s w of most u =
-    let sized = u.data_.sized in
-    let good = reads_good x.geometry s Primary w.ok sized (u.primary field.Magic) in
-    let unset = reads_copy_done x.geometry s Primary 255 (replicate 7 255) (u.primary field.CopyDone) in
-    let absent = reads_absent x.geometry s Secondary w.ok sized (u.secondary field.Magic) in
-    let info = reads_info x.geometry s Primary (number_of kind) (replicate (x.geometry.unit - 1) 255) (u.primary field.SwapInfo) in
-    let sized_is = reads_size x.geometry s Primary size (replicate (x.geometry.unit - 4) 255) w.ok sized w.small (u.primary field.SwapSize) in
-    let first = found x.geometry n k s w.ok sized w.at_most most u.entries in
+pub plan_runs : (x : PowerOn) (size n : ℕ) (b : Bool) (kind : SwapType) (k : ℕ) (s : Content) → Swap x.geometry x.content size n → IsSwapOf b kind → k ≤ 3 * n
+    → IsSized x.geometry s → FieldsAre x.geometry s Primary (opened x.geometry kind size) → Entries x.geometry n k s → NoOther x.rules.profile x.geometry s
+    → plan (again x s) ≡ running (in_pieces x.rules.grain x.geometry) kind n k (k == 0)
+plan_runs x size n b kind k s w of most sized are entries none =
+    let good = reads_good x.geometry s Primary w.ok sized (are field.Magic) in
+    let unset = reads_copy_done x.geometry s Primary 255 (replicate 7 255) (are field.CopyDone) in
+    let info = reads_info x.geometry s Primary (number_of kind) (replicate (x.geometry.unit - 1) 255) (are field.SwapInfo) in
+    let sized_is = reads_size x.geometry s Primary size (replicate (x.geometry.unit - 4) 255) w.ok sized w.small (are field.SwapSize) in
+    let first = found x.geometry n k s w.ok sized w.at_most most entries in
     let settled = confirms_not b kind (trailer_of x.geometry s Primary).image_ok (swap_of b kind of)
-    (λ stays. image_ok_is x.geometry s kind false (swap_of b kind of ∙ stays) (u.primary field.ImageOk)) in
-    plan_resumed (again x s) (rw good (rw unset (rw absent refl)))
+    (λ stays. image_ok_is x.geometry s kind false (swap_of b kind of ∙ stays) (are field.ImageOk)) in
+    plan_resumed (again x s) (rw none (rw good (rw unset refl)))
     ∙ (grind (arith, w.count, w.some, w.at_most, first.0, first.1))
 
 -- the plan of a swap from its start
@@ -194,16 +172,29 @@ sees_images s size valid larger = record { valid = valid; larger = larger }
 abbrev pub kind_asked : Bool → SwapType
 kind_asked b = if b then kinds.Test else kinds.Perm
 
+pub flag_is : (g : Geometry) (s : Content) (e : Bool) → FieldsAre g s Secondary (asked e) → (trailer_of g s Secondary).image_ok ≡ (if e then flags.Unset else flags.Set)
+flag_is g s true are = reads_image_ok g s Secondary 255 [] (are field.ImageOk)
+flag_is g s false are = reads_image_ok g s Secondary 1 [] (are field.ImageOk)
+
 pub plan_asked : (x : PowerOn) (size n : ℕ) (b : Bool) (s : Content) → Swap x.geometry x.content size n → SeesImages s size → Asked x.geometry x.content n b s
     → plan (again x s) ≡ starting x.rules.grain x.geometry (kind_asked b) size n
 plan_asked x size n b s w sees u =
     let good = reads_good x.geometry s Secondary w.ok u.data_.sized (u.secondary field.Magic) in
-    new_is (again x s) (kind_asked b) (starting x.rules.grain x.geometry (kind_asked b) size n) (rw good (grind arith))
+    new_is (again x s) (kind_asked b) (starting x.rules.grain x.geometry (kind_asked b) size n) (not_on b good u.secondary)
     (table b good u.secondary) (swap b)
   where
+    clear : (e : Bool) → (if e then flags.Unset else flags.Set) ≢ flags.Bad
+    clear true = λ is. cc
+    clear false = λ is. cc
+
+    not_on : (e : Bool) → (trailer_of x.geometry s Secondary).magic ≡ magics.Good → FieldsAre x.geometry s Secondary (asked e) → is_resumed x.rules.profile x.geometry s ≡ false
+    not_on e good are =
+        let another = asks_clearly x.rules.profile (trailer_of x.geometry s Primary) (trailer_of x.geometry s Secondary) good (λ bad. absurd (clear e (sym (flag_is x.geometry s e are) ∙ bad))) in
+        rw another (grind arith)
+
     table : (e : Bool) → (trailer_of x.geometry s Secondary).magic ≡ magics.Good → FieldsAre x.geometry s Secondary (asked e) → table_of x.rules.profile x.geometry s ≡ kind_asked e
-    table true good are = rw good (rw (reads_image_ok x.geometry s Secondary 255 [] (are field.ImageOk)) refl)
-    table false good are = rw good (rw (reads_image_ok x.geometry s Secondary 1 [] (are field.ImageOk)) refl)
+    table true good are = rw good (rw (flag_is x.geometry s true are) refl)
+    table false good are = rw good (rw (flag_is x.geometry s false are) refl)
 
     swap : (e : Bool) → new_plan x.rules.grain x.geometry (images_of s) (kind_asked e) ≡ starting x.rules.grain x.geometry (kind_asked e) size n
     swap true = new_swap_is x.rules.grain x.geometry (images_of s) kinds.Test size n sees.valid sees.larger w.count w.at_most
@@ -226,7 +217,7 @@ plan_settled x done absent set = grind (arith, new_is)
 pub plan_none : (x : PowerOn) → (trailer_of x.geometry x.content Primary).magic ≡ magics.Unset → (trailer_of x.geometry x.content Secondary).magic ≡ magics.Unset → plan x ≡ nothing kinds.None
 plan_none x p q = grind (arith, new_is)
 
-pub magic_unset_reverts : (c : Grain) (profile : Profile) (g : Geometry) (s : Content) → forgets_reverts c profile ≡ false → IsLayout g → IsSized g s → MagicUnset c g s
+pub magic_unset_reverts : (c : Grain) (profile : Profile) (g : Geometry) (s : Content) → forgets_reverts c profile ≡ false → IsLayout g → IsSized g s → MagicUnset c g Secondary s
     → reverts_at profile (trailer_of g s Secondary).magic ≡ true
 magic_unset_reverts it profile g s keeps ok sized magic_unset = grind (arith, reads_absent, reads_not_good)
 

@@ -11,7 +11,7 @@ use Rattle.mc_flash.specs.{Geometry.{Geometry, IsLayout, greatest_sectors, in_pi
 use Rattle.mc_flash.specs.{declared.flash.FlashError.{FlashError}, declared.op.Op.{Op}, declared.op.Slot.TheVariants.{Primary, Secondary}}
 use Rattle.mc_flash.specs.facts.Usage.{few_trailer_sectors}
 use Rattle.mc_image.specs.Valid.{id_of}
-use Rattle.mc_trailer.specs.{Tables.{is_resumed, resumes, swap_type, table_of}, Trailer.{highest_entry, trailer_of}, declared.tables.Rules.{Rules}}
+use Rattle.mc_trailer.specs.{Tables.{is_resumed, resumes_by, swap_type, table_of}, Trailer.{highest_entry, trailer_of}, declared.tables.Rules.{Rules}}
 use Rattle.mc_trailer.specs.{declared.tables.SwapType.{SwapType}, declared.trailer.Flag.{Flag}, declared.trailer.Trailer.{Trailer}}
 use Rattle.mc_flash.specs.declared.flash.FlashError.TheVariants as errors
 
@@ -28,21 +28,24 @@ pub resumed_begun : (r : Rules) (g : Geometry) (image_ok : Flag) (highest : Opti
 resumed_begun r g image_ok highest kind n first l erases ok some at_most first_is layout_is erases_is ok_is written is = grind arith
 
 -- the two halves of a plan
-pub plan_resumed : (x : PowerOn) → is_resumed x.geometry x.content ≡ true
+pub plan_resumed : (x : PowerOn) → is_resumed x.rules.profile x.geometry x.content ≡ true
     → plan x ≡ resumed_plan x.rules.grain x.geometry (trailer_of x.geometry x.content Primary) (highest_entry x.geometry x.content)
 unfolding plan plan_with
 plan_resumed x it = grind arith
 
-pub plan_new : (x : PowerOn) → is_resumed x.geometry x.content ≡ false → plan x ≡ new_plan x.rules.grain x.geometry (images_of x.content) (table_of x.rules.profile x.geometry x.content)
+pub plan_new : (x : PowerOn) → is_resumed x.rules.profile x.geometry x.content ≡ false
+    → plan x ≡ new_plan x.rules.grain x.geometry (images_of x.content) (table_of x.rules.profile x.geometry x.content)
 unfolding plan plan_with
 plan_new x it = grind arith
 
 -- the boot that the trailers decide on is that of the plan
-pub begun_resumed : (x : PowerOn) (p q : Trailer) (b : Bool) → p ≡ trailer_of x.geometry x.content Primary → q ≡ trailer_of x.geometry x.content Secondary → b ≡ resumes p q → b ≡ true
+pub begun_resumed : (x : PowerOn) (p q : Trailer) (b : Bool) → p ≡ trailer_of x.geometry x.content Primary → q ≡ trailer_of x.geometry x.content Secondary
+    → b ≡ resumes_by x.rules.profile p q → b ≡ true
     → begun x.rules (resumed_plan x.rules.grain x.geometry p (highest_entry x.geometry x.content)) ≡ begun x.rules (plan x)
 begun_resumed from p q b first second is it = grind (arith, plan_resumed)
 
-pub begun_new : (x : PowerOn) (p q : Trailer) (b : Bool) (kind : SwapType) → p ≡ trailer_of x.geometry x.content Primary → q ≡ trailer_of x.geometry x.content Secondary → b ≡ resumes p q → b ≡ false
+pub begun_new : (x : PowerOn) (p q : Trailer) (b : Bool) (kind : SwapType) → p ≡ trailer_of x.geometry x.content Primary → q ≡ trailer_of x.geometry x.content Secondary
+    → b ≡ resumes_by x.rules.profile p q → b ≡ false
     → kind ≡ swap_type x.rules.profile p q → begun x.rules (new_plan x.rules.grain x.geometry (images_of x.content) kind) ≡ begun x.rules (plan x)
 begun_new from p q b kind first second is it asks = grind (arith, plan_new)
 

@@ -1,23 +1,21 @@
 -- The restart theorem, its second round, and the plan of a test all of whose operations happen.
-use Rattle.std.proofs.{Common.{ap, arith, inl, inr, subst, sym, ◌∙◌}, Math.Nat.{mul-le-mul_right}, lemmas.Bool.Decides.{nat_tests}}
-use Rattle.std.proofs.lemmas.Grind.{div_ceil_times}
+use Rattle.std.proofs.{Common.{ap, arith, inl, inr, subst, sym, ◌∙◌}, Math.Nat.{mul-le-mul_right}, lemmas.Bool.Decides.{nat_tests}, lemmas.Grind.{div_ceil_times}}
 use Rattle.std.specs.{Int.{div_ceil}, Prelude.{Bool, List, Some, [], false, if◌then◌else◌, length, max, refl, take, true, ℕ, ◌*◌, ◌≡◌, ◌≢◌, ◌≤◌, ◌⊎◌}}
 use Rattle.mc_boot.proofs.{AtRest.{AtRest, both_true, next_is, none_idle, swap_sectors}, DeliveredStarts.{starts_law, test_delivered}}
-use Rattle.mc_boot.proofs.FromRest.{rest_law, settled_stays, unmarked_stays}
-use Rattle.mc_boot.proofs.{Images.{ImageLaws, SameImage, image_prefix, same_prefixes, same_then}, InPieces.{asked_pieces}, Joins.{happens_few}}
-use Rattle.mc_boot.proofs.{Keeps.{Keeps, boots_so, ends, place_beyond_data, restart}, LifeProof.{Written, confirmed_written, predicts, rests_delivered}}
-use Rattle.mc_boot.proofs.Phases.{asked, larger_size, plan_asked, plan_none, sees_images, starting}
+use Rattle.mc_boot.proofs.{FromRest.{at_rest_uncut, rest_law, settled_stays, unmarked_stays}, Images.{ImageLaws, SameImage, image_prefix, same_prefixes, same_then}, InPieces.{asked_pieces}}
+use Rattle.mc_boot.proofs.{Joins.{happens_few}, Keeps.{Ends, boots_so, place_beyond_data}, LifeProof.{Written, confirmed_written, predicts, rests_delivered}}
+use Rattle.mc_boot.proofs.Phases.{asked, flag_is, larger_size, plan_asked, plan_none, sees_images, starting}
 use Rattle.mc_boot.proofs.Starts.{Holding, count_of, perm_asked, perm_holds, placed_holds, placed_unasked, primary_image, secondary_image, swap_held, test_asked, test_holds}
-use Rattle.mc_boot.specs.Life.{DeviceState, EndsWell, Forgets, IsDelivered, Leaves, LeavesBytes, asked_of, can_swap, done_or_fails, is_on_trial}
-use Rattle.mc_boot.specs.{Outcome.{after, is_faulted, left_by, ops_of}, Plan.{Plan, PowerOn, again, image_size, new_list, nothing, plain, plan, power_on}}
+use Rattle.mc_boot.proofs.Tears.{Stands, cuts_losing, cutting, stands_ends, withstands}
+use Rattle.mc_boot.specs.{Life.{DeviceState, EndsWell, Forgets, IsDelivered, Leaves, LeavesBytes, asked_of, can_swap, done_or_fails, is_on_trial}, Outcome.{after, is_faulted, left_by, ops_of}}
+use Rattle.mc_boot.specs.Plan.{Plan, PowerOn, again, image_size, new_list, nothing, plain, plan, power_on}
 use Rattle.mc_boot.specs.Restart.{AreBack, AreExchanged, BeginsImage, EndsAgain, EndsIn, Holds, IsIdle, IsSettled, IsSwapped, IsTested, RestartLaw, RoundsLaw, StartsExist, confirmed, confirmed_if, forgets_reverts, image_bytes, may_confirm, named, other, perm_flash, placed, start_flash, test_flash}
-use Rattle.mc_boot.specs.{WholeSwap.{MakesSwap}, declared.kind.Kind.{Kind}, facts.Run.{left_defined}}
+use Rattle.mc_boot.specs.{Torn.{type_of}, WholeSwap.{MakesSwap}, declared.kind.Kind.{Kind}, facts.Run.{left_defined}}
 use Rattle.mc_flash.specs.{Flash.{Content}, Geometry.{Geometry, IsLayout, fits, greatest_sectors, in_pieces}, declared.flash.Grain.{Grain}, declared.op.Op.{Op}}
 use Rattle.mc_flash.specs.{declared.op.Slot.TheVariants.{Primary, Secondary}, facts.Changes.{same_content, sized_is}, facts.Layouts.{data_end, image_is_data}}
 use Rattle.mc_image.specs.Valid.{is_valid}
-use Rattle.mc_trailer.specs.{Tables.{is_good}, Trailer.{place, trailer_of}, declared.tables.Profile.{Profile}}
-use Rattle.mc_trailer.specs.{declared.tables.Rules.{Rules}, declared.tables.SwapType.{SwapType}}
-use Rattle.mc_trailer.specs.{declared.trailer.Trailer.{Trailer}, facts.Fields.{FieldsAre, reads_absent, reads_good, reads_image_ok}, facts.Places.{field_ends}}
+use Rattle.mc_trailer.specs.{Tables.{is_good}, Trailer.{place, trailer_of}, declared.tables.Profile.{Profile}, declared.tables.Rules.{Rules}, declared.tables.SwapType.{SwapType}}
+use Rattle.mc_trailer.specs.{declared.trailer.Trailer.{Trailer}, facts.Fields.{FieldsAre, reads_absent, reads_good}, facts.Places.{field_ends}}
 use lib.Seq.{take-take}
 use Rattle.mc_trailer.specs.declared.places.Field.TheVariants as field
 use Rattle.mc_trailer.specs.declared.trailer.Flag.TheVariants as flags
@@ -44,27 +42,32 @@ idle_at r g a b laws ok at_a at_b =
 
 -- A flash whose boot has no operation: no cut can occur, and it stays.
 module _ (from : PowerOn) (idle : (plan from).list ≡ []) where
-  rests : (s : Content) → s ≡ from.content → Keeps from.geometry (λ t. t ≡ from.content) (plan (again from s)).list s (λ t. t ≡ from.content)
-  rests s same = let E : List Op → Type 0 = λ ops. Keeps from.geometry (λ t. t ≡ from.content) ops s (λ t. t ≡ from.content) in subst E (sym (ap (λ x. (plan (again from x)).list) same ∙ idle)) same
+  rests : (s : Content) → s ≡ from.content → Stands cutting from.geometry (λ t. t ≡ from.content) (plan (again from s)).list s (λ t. t ≡ from.content)
+  rests s same =
+      let E : List Op → Type 0 = λ ops. Stands cutting from.geometry (λ t. t ≡ from.content) ops s (λ t. t ≡ from.content) in
+      subst E (sym (ap (λ x. (plan (again from x)).list) same ∙ idle)) same
+
+  end : (z : Content) × Ends from.rules from.geometry (λ t. t ≡ from.content) from.content z
+  end = stands_ends cutting from.rules from.geometry (λ t. t ≡ from.content) (λ t. t ≡ from.content) from.content (rests from.content refl)
 
   pub uncut : (u : Content) (cuts : List ℕ) → after from cuts ≡ Some u → u ≡ from.content
-  uncut u cuts is = restart from.rules from.geometry (λ t. t ≡ from.content) (λ t. t ≡ from.content) rests cuts from.content u refl is
+  uncut u cuts is = withstands cutting from.rules from.geometry (λ t. t ≡ from.content) (λ s t. t ≡ from.content) rests cuts from.content u refl (cuts_losing cutting from cuts u is)
 
   pub idle_leaves : left_by from ≡ Some from.content
-  idle_leaves = let end = ends from.rules from.geometry (λ t. t ≡ from.content) (λ t. t ≡ from.content) from.content (rests from.content refl) in end.1.end ∙ ap (λ (t : Content). Some t) end.1.so
+  idle_leaves = end.1.end ∙ ap (λ (t : Content). Some t) end.1.so
 
   -- What holds there is what its boot ends in.
   pub idle_ends : (kind : Kind) (a b : List ℕ) (s : Content) → (plan from).kind ≡ kinds.None → is_valid from.content.primary ≡ true → Holds (named kind a b) from.content.primary
       → Holds (other kind a b) from.content.secondary
       → IsSwapped (again from s) kind from.content from.content → EndsIn (again from s) kind a b from.content from.content
   idle_ends kind a b s none valid one two swapped =
-      let end = ends from.rules from.geometry (λ t. t ≡ from.content) (λ t. t ≡ from.content) from.content (rests from.content refl) in
+      let end_ = end in
       grind (arith, idle_leaves, boots_so)
 
 -- ---- flashes that two images start from
 
 -- the image stands wherever so many bytes are the same
-same_in_prefix : (g : Geometry) (b ys zs : List ℕ) (m : ℕ) → ImageLaws → BeginsImage g b → SameImage b ys → image_size ys ≤ m → take m zs ≡ take m ys → SameImage b zs
+pub same_in_prefix : (g : Geometry) (b ys zs : List ℕ) (m : ℕ) → ImageLaws → BeginsImage g b → SameImage b ys → image_size ys ≤ m → take m zs ≡ take m ys → SameImage b zs
 same_in_prefix g b ys zs m laws at_b same most is =
     let less : image_size b ≤ m = let size = same.size in omega (arith, size, most) in
     image_prefix b zs laws at_b.bytes at_b.valid (sym (take-take (image_size b) m zs less) ∙ ap (take (image_size b)) is ∙ take-take (image_size b) m ys less ∙ same.prefix)
@@ -77,16 +80,20 @@ pub record Begins (r : Rules) (g : Geometry) (kind : SwapType) (a b : List ℕ) 
   pub secondary : SameImage b s.secondary
 
 module _ (laws : ImageLaws) (r : Rules) (g : Geometry) (a b : List ℕ) (ok : IsLayout g) (at_a : BeginsImage g a) (at_b : BeginsImage g b) where
-  -- the images, where the sectors of a swap were exchanged
-  pub crossed_images : (kind : SwapType) (s z : Content) → kind ≢ kinds.None → kind ≢ kinds.Fail → Begins r g kind a b s → AreExchanged g (plan (power_on r g s)).sectors s z
-      → SameImage b z.primary × SameImage a z.secondary
-  crossed_images kind s z some made begins are =
-      let count = (swap_sectors (power_on r g s) kind begins.rest.rest begins.next some made).0 in
-      let most : larger_size s ≤ count_of g s * g.sector = (div_ceil_times (larger_size s) g.sector (omega arith)).0 in
-      let rows : (plan (power_on r g s)).sectors * g.sector ≡ count_of g s * g.sector = ap (λ n. n * g.sector) count in (
-        same_in_prefix g b s.secondary z.primary ((plan (power_on r g s)).sectors * g.sector) laws at_b begins.secondary (omega (arith, most, rows)) are.primary,
-        same_in_prefix g a s.primary z.secondary ((plan (power_on r g s)).sectors * g.sector) laws at_a begins.primary (omega (arith, most, rows)) are.secondary,
-      )
+  -- the images of a swap are in its sectors
+  module _ (kind : SwapType) (s : Content) (some : kind ≢ kinds.None) (made : kind ≢ kinds.Fail) (begins : Begins r g kind a b s) where
+    larger_inside : larger_size s ≤ (plan (power_on r g s)).sectors * g.sector
+    larger_inside =
+        let count = (swap_sectors (power_on r g s) kind begins.rest.rest begins.next some made).0 in
+        let most : larger_size s ≤ count_of g s * g.sector = (div_ceil_times (larger_size s) g.sector (omega arith)).0 in
+        let rows : (plan (power_on r g s)).sectors * g.sector ≡ count_of g s * g.sector = ap (λ n. n * g.sector) count in
+        omega (arith, most, rows)
+
+    pub first_in : (zs : List ℕ) → take ((plan (power_on r g s)).sectors * g.sector) zs ≡ take ((plan (power_on r g s)).sectors * g.sector) s.primary → SameImage a zs
+    first_in zs = same_in_prefix g a s.primary zs ((plan (power_on r g s)).sectors * g.sector) laws at_a begins.primary (let inside = larger_inside in omega (arith, inside))
+
+    pub second_in : (zs : List ℕ) → take ((plan (power_on r g s)).sectors * g.sector) zs ≡ take ((plan (power_on r g s)).sectors * g.sector) s.secondary → SameImage b zs
+    second_in zs = same_in_prefix g b s.secondary zs ((plan (power_on r g s)).sectors * g.sector) laws at_b begins.secondary (let inside = larger_inside in omega (arith, inside))
 
   module _ (s u : Content) (cuts : List ℕ) (is : after (power_on r g s) cuts ≡ Some u) where
     -- no operation
@@ -103,13 +110,14 @@ module _ (laws : ImageLaws) (r : Rules) (g : Geometry) (a b : List ℕ) (ok : Is
         → ((z : Content) → LeavesBytes r g next (plan (power_on r g s)).sectors s z → AreExchanged g (plan (power_on r g s)).sectors s z × IsSwapped (power_on r g s) kind u z)
         → (next ≡ kinds.Revert → forgets_reverts r.grain r.profile ≡ false) → Begins r g next a b s → (z : Content) × EndsIn (power_on r g s) kind a b u z
     swap_law kind next is_named is_other some made done keeps begins =
-        let end = rest_law laws r g ok s begins.rest u cuts is in
-        (end.0, by end.0 end.1 end.2.leaves)
+        let end = rest_law laws r g ok s begins.rest cutting u cuts (cuts_losing cutting (power_on r g s) cuts u is) in
+        (end.0, by end.0 end.1.well end.1.makes)
       where
         by : (z : Content) → EndsWell (power_on r g u) z → Leaves r g s z ⊎ Forgets r g s u z → EndsIn (power_on r g s) kind a b u z
         by z well (inl l) =
             let bytes = done z (rw begins.next at l.bytes) in
-            let held = crossed_images next s z some made begins bytes.0 in
+            let upper = second_in next s some made begins z.primary bytes.0.primary in
+            let lower = first_in next s some made begins z.secondary bytes.0.secondary in
             grind arith
         by z well (inr f) = let e : true ≡ false = sym f.rules ∙ keeps (sym begins.next ∙ f.next) in absurd cc
 
@@ -123,10 +131,6 @@ module _ (laws : ImageLaws) (r : Rules) (g : Geometry) (a b : List ℕ) (ok : Is
       → done_or_fails (asked_of profile trial q) can ≡ (if e then kinds.Test else kinds.Perm)
   asked_next profile trial can it q good flag is = grind arith
 
-  asked_flag : (e : Bool) (s : Content) → FieldsAre g s Secondary (asked e) → (trailer_of g s Secondary).image_ok ≡ (if e then flags.Unset else flags.Set)
-  asked_flag true s are = reads_image_ok g s Secondary 255 [] (are field.ImageOk)
-  asked_flag false s are = reads_image_ok g s Secondary 1 [] (are field.ImageOk)
-
   pub begins_asked : (e : Bool) (s : Content) → IsDelivered g s → Holding g a b s → FieldsAre g s Secondary (asked e) → Begins r g (if e then kinds.Test else kinds.Perm) a b s
   begins_asked e s delivered h are =
       let two = secondary_image g a b s laws ok at_b h in
@@ -135,7 +139,7 @@ module _ (laws : ImageLaws) (r : Rules) (g : Geometry) (a b : List ℕ) (ok : Is
         rest = rest;
         next = next_is r g ok s rest
             ∙ asked_next r.profile (is_on_trial (trailer_of g s Primary)) (can_swap g s.secondary) e (trailer_of g s Secondary)
-            (reads_good g s Secondary ok h.sized (are field.Magic)) (asked_flag e s are)
+            (reads_good g s Secondary ok h.sized (are field.Magic)) (flag_is g s e are)
             (both_true (is_valid s.secondary) (fits g (image_size s.secondary)) two.valid (ap (fits g) two.size ∙ at_b.fitting));
         primary = primary_image g a b s laws ok at_a h;
         secondary = two;
@@ -160,9 +164,12 @@ module _ (laws : ImageLaws) (r : Rules) (g : Geometry) (a b : List ℕ) (ok : Is
   -- What a test of the exchanged images leaves, by whatever rules, waits to be taken back.
   pub begins_revert : (s x : Content) → AtRest g x → Begins r g kinds.Test b a s → AreExchanged g (plan (power_on r g s)).sectors s x → IsTested (power_on r g x) → (p : Rules)
       → ((plan (power_on r g x)).kind ≡ kinds.Revert → (plan (power_on p g x)).kind ≡ kinds.Revert) → Begins p g kinds.Revert a b x
-  begins_revert s x rest begins are tested p too =
-      let held = crossed_images laws r g b a ok at_b at_a kinds.Test s x (λ e. cc) (λ e. cc) begins are in
-      record { rest = rest; next = too tested.next; primary = held.0; secondary = held.1 }
+  begins_revert s x rest begins are tested p too = record {
+    rest = rest;
+    next = too tested.next;
+    primary = second_in laws r g b a ok at_b at_a kinds.Test s (λ e. cc) (λ e. cc) begins x.primary are.primary;
+    secondary = first_in laws r g b a ok at_b at_a kinds.Test s (λ e. cc) (λ e. cc) begins x.secondary are.secondary;
+  }
 
   by_any : (x : Content) → AtRest g x → (plan (power_on plain g x)).kind ≡ kinds.Revert → (plan (power_on r g x)).kind ≡ kinds.Revert
   by_any x rest is = grind (arith, next_is, reverts_too)
@@ -174,19 +181,19 @@ module _ (laws : ImageLaws) (r : Rules) (g : Geometry) (a b : List ℕ) (s : Con
       let from : Holding g a b s × FieldsAre g s Secondary (asked true) = rw (← start) (test_holds g a b laws ok at_a at_b, test_asked g a b laws ok at_b) in
       begins_asked laws r g a b ok at_a at_b true s is from.0 from.1
 
-  perm_begins : perm_flash g (image_bytes a) (image_bytes b) ≡ s → Begins r g kinds.Perm a b s
+  pub perm_begins : perm_flash g (image_bytes a) (image_bytes b) ≡ s → Begins r g kinds.Perm a b s
   perm_begins start =
       let from : Holding g a b s × FieldsAre g s Secondary (asked false) = rw (← start) (perm_holds g a b laws ok at_a at_b, perm_asked g a b laws ok at_b) in
       begins_asked laws r g a b ok at_a at_b false s is from.0 from.1
 
 -- the start of a revert, which a test by the plain rules leaves
-revert_begins : ImageLaws → (r : Rules) (g : Geometry) (a b : List ℕ) (s : Content) → IsLayout g → BeginsImage g a → BeginsImage g b
+pub revert_begins : ImageLaws → (r : Rules) (g : Geometry) (a b : List ℕ) (s : Content) → IsLayout g → BeginsImage g a → BeginsImage g b
     → left_by (power_on plain g (test_flash g (image_bytes b) (image_bytes a))) ≡ Some s → Begins r g kinds.Revert a b s
 revert_begins laws r g a b s ok at_a at_b left =
     let from : Content = test_flash g (image_bytes b) (image_bytes a) in
     let begins = test_begins laws plain g b a from ok at_b at_a (test_delivered laws g b a ok at_b at_a) refl in
-    let end = rest_law laws plain g ok from begins.rest from [] refl in
-    rw (← same_content end.0 s (sym end.1.end ∙ left)) (by from begins end.0 end.2.rest end.2.leaves)
+    let end = rest_law laws plain g ok from begins.rest cutting from [] refl in
+    rw (← same_content end.0 s (sym end.1.well.end ∙ left)) (by from begins end.0 (at_rest_uncut plain g end.0 end.1.rests) end.1.makes)
   where
     by : (from : Content) → Begins plain g kinds.Test b a from → (z : Content) → AtRest g z → Leaves plain g from z ⊎ Forgets plain g from from z → Begins r g kinds.Revert a b z
     by from begins z rest (inl l) =
@@ -194,20 +201,28 @@ revert_begins laws r g a b s ok at_a at_b left =
         begins_revert laws plain g a b ok at_a at_b from z rest begins bytes.0 bytes.1 r (by_any laws r g a b ok at_a at_b z rest)
     by from begins z rest (inr f) = let e : kinds.Test ≡ kinds.Revert = sym begins.next ∙ f.next in absurd cc
 
-pub restart_law : ImageLaws → (r : Rules) → RestartLaw r
+-- each start
+pub begins_as : ImageLaws → (r : Rules) (g : Geometry) (kind : Kind) (a b : List ℕ) (s : Content) → IsLayout g → BeginsImage g a → BeginsImage g b → start_flash g kind a b ≡ Some s
+    → Begins r g (type_of kind) a b s
 unfolding start_flash
-restart_law laws r g starts.None a b s u cuts ok at_a at_b keeps start is =
-    let delivered = starts_law laws g starts.None a b s ok at_a at_b (λ e. cc) start in
-    idle_law laws r g a b ok at_a at_b s u cuts is (begins_placed laws r g a b ok at_a at_b s delivered (same_content (placed g (image_bytes a) (image_bytes b)) s start))
+begins_as laws r g starts.None a b s ok at_a at_b start =
+    begins_placed laws r g a b ok at_a at_b s (starts_law laws g starts.None a b s ok at_a at_b (λ e. cc) start) (same_content (placed g (image_bytes a) (image_bytes b)) s start)
+begins_as laws r g starts.Test a b s ok at_a at_b start =
+    test_begins laws r g a b s ok at_a at_b (starts_law laws g starts.Test a b s ok at_a at_b (λ e. cc) start) (same_content (test_flash g (image_bytes a) (image_bytes b)) s start)
+begins_as laws r g starts.Perm a b s ok at_a at_b start =
+    perm_begins laws r g a b s ok at_a at_b (starts_law laws g starts.Perm a b s ok at_a at_b (λ e. cc) start) (same_content (perm_flash g (image_bytes a) (image_bytes b)) s start)
+begins_as laws r g starts.Revert a b s ok at_a at_b start = revert_begins laws r g a b s ok at_a at_b start
+
+pub restart_law : ImageLaws → (r : Rules) → RestartLaw r
+restart_law laws r g starts.None a b s u cuts ok at_a at_b keeps start is = idle_law laws r g a b ok at_a at_b s u cuts is (begins_as laws r g starts.None a b s ok at_a at_b start)
 restart_law laws r g starts.Test a b s u cuts ok at_a at_b keeps start is =
-    let delivered = starts_law laws g starts.Test a b s ok at_a at_b (λ e. cc) start in
     swap_law laws r g a b ok at_a at_b s u cuts is starts.Test kinds.Test refl refl (λ e. cc) (λ e. cc) (λ z bytes. (bytes.0, (bytes.0, bytes.1))) (λ e. cc)
-    (test_begins laws r g a b s ok at_a at_b delivered (same_content (test_flash g (image_bytes a) (image_bytes b)) s start))
+    (begins_as laws r g starts.Test a b s ok at_a at_b start)
 restart_law laws r g starts.Perm a b s u cuts ok at_a at_b keeps start is =
-    let delivered = starts_law laws g starts.Perm a b s ok at_a at_b (λ e. cc) start in
     swap_law laws r g a b ok at_a at_b s u cuts is starts.Perm kinds.Perm refl refl (λ e. cc) (λ e. cc) (λ z bytes. (bytes.0, bytes)) (λ e. cc)
-    (perm_begins laws r g a b s ok at_a at_b delivered (same_content (perm_flash g (image_bytes a) (image_bytes b)) s start))
-restart_law laws r g starts.Revert a b s u cuts ok at_a at_b keeps start is = revert_law laws r g a b ok at_a at_b s u cuts is (keeps refl) (revert_begins laws r g a b s ok at_a at_b start)
+    (begins_as laws r g starts.Perm a b s ok at_a at_b start)
+restart_law laws r g starts.Revert a b s u cuts ok at_a at_b keeps start is =
+    revert_law laws r g a b ok at_a at_b s u cuts is (keeps refl) (begins_as laws r g starts.Revert a b s ok at_a at_b start)
 
 pub starts_exist : StartsExist
 unfolding start_flash
@@ -267,8 +282,8 @@ module _ (laws : ImageLaws) (r : Rules) (g : Geometry) (a b : List ℕ) (ok : Is
   module _ (s t x : Content) (first : List ℕ) (begins : Begins r g kinds.Test a b s) (is : after (power_on r g s) first ≡ Some t) (left : left_by (power_on r g t) ≡ Some x) where
     round : Tested s x
     round =
-        let end = rest_law laws r g ok s begins.rest t first is in
-        rw (← same_content end.0 x (sym end.1.end ∙ left)) (by end.0 end.2.rest end.2.leaves)
+        let end = rest_law laws r g ok s begins.rest cutting t first (cuts_losing cutting (power_on r g s) first t is) in
+        rw (← same_content end.0 x (sym end.1.well.end ∙ left)) (by end.0 (at_rest_uncut r g end.0 end.1.rests) end.1.makes)
       where
         by : (y : Content) → AtRest g y → Leaves r g s y ⊎ Forgets r g s t y → Tested s y
         by y rest (inl l) =
@@ -342,17 +357,12 @@ module _ (laws : ImageLaws) (r : Rules) (g : Geometry) (a b : List ℕ) (ok : Is
 pub rounds_law : ImageLaws → (r : Rules) → RoundsLaw r
 unfolding start_flash
 rounds_law laws r g starts.None confirms a b s t x u first second ok at_a at_b keeps start is left occurs =
-    let there : placed g (image_bytes a) (image_bytes b) ≡ s = same_content (placed g (image_bytes a) (image_bytes b)) s start in
-    let begins = begins_placed laws r g a b ok at_a at_b s (starts_law laws g starts.None a b s ok at_a at_b (λ e. cc) start) there in
-    none_round laws r g a b ok at_a at_b confirms s t x u first second begins (rw (← there) (absent_stays laws r g a b ok at_a at_b)) is left occurs
+    let stays = let E : Content → Type 0 = λ s. confirmed g s ≡ s in subst E (same_content (placed g (image_bytes a) (image_bytes b)) s start) (absent_stays laws r g a b ok at_a at_b) in
+    none_round laws r g a b ok at_a at_b confirms s t x u first second (begins_as laws r g starts.None a b s ok at_a at_b start) stays is left occurs
 rounds_law laws r g starts.Test false a b s t x u first second ok at_a at_b keeps start is left occurs =
-    let delivered = starts_law laws g starts.Test a b s ok at_a at_b (λ e. cc) start in
-    let begins = test_begins laws r g a b s ok at_a at_b delivered (same_content (test_flash g (image_bytes a) (image_bytes b)) s start) in
-    left_round laws r g a b ok at_a at_b s t x first begins is left u second (keeps refl) occurs
+    left_round laws r g a b ok at_a at_b s t x first (begins_as laws r g starts.Test a b s ok at_a at_b start) is left u second (keeps refl) occurs
 rounds_law laws r g starts.Test true a b s t x u first second ok at_a at_b keeps start is left occurs =
-    let delivered = starts_law laws g starts.Test a b s ok at_a at_b (λ e. cc) start in
-    let begins = test_begins laws r g a b s ok at_a at_b delivered (same_content (test_flash g (image_bytes a) (image_bytes b)) s start) in
-    confirmed_round laws r g a b ok at_a at_b s t x first begins is left u second occurs
+    confirmed_round laws r g a b ok at_a at_b s t x first (begins_as laws r g starts.Test a b s ok at_a at_b start) is left u second occurs
 rounds_law laws r g starts.Perm confirms a b s t x u first second ok at_a at_b keeps start is left occurs =
     let e = restart_law laws r g starts.Perm a b s t first ok at_a at_b (λ same. absurd cc) start is in
     stays_round r g starts.Perm confirms a b s second t x u e.0 ok e.1 e.1.swapped.1 e.1.swapped left occurs

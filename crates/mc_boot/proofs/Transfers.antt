@@ -1,16 +1,13 @@
 -- The transfers of a swap: where each reads and writes, its status entry, and the highest entry that is written.
-use Rattle.std.proofs.{Common.{add-zero, ap, arith, eq-eqb, inl, inr, subst, sym, zero-add, ◌∙◌, add-one}, lemmas.Bool.{cases_eq, cases_lt}}
-use Rattle.std.proofs.{lemmas.Bool.Decides.{nat_tests}, lemmas.Iterator.Adapters.{position_from-zero}, lemmas.Option.{slice_get_within, get_or_from_slice_get}}
+use Rattle.std.proofs.{Common.{add-one, ap, arith, eq-eqb, inl, inr, subst, sym, zero-add, ◌∙◌}, lemmas.Bool.{cases_eq, cases_lt}, lemmas.Bool.Decides.{nat_tests}}
+use Rattle.std.proofs.{lemmas.Iterator.Adapters.{position_from-zero}, lemmas.Option.{get_or_from_slice_get, slice_get_within}}
 use Rattle.std.specs.List.{position_from, range_with_len}
-use Rattle.std.specs.Prelude.{Bool, List, None, Option, Some, [], false, flat_map, if◌then◌else◌, map, nat_lt, option_map, refl, slice_get, suc, take, true, zero, ℕ, ◌%◌, ◌&&◌, ◌*◌, ◌++◌, ◌+◌, ◌-◌, ◌/◌, ◌<◌, ◌==◌, ◌∷◌, ◌≡◌, ◌≤◌, ◌⊎◌}
+use Rattle.std.specs.Prelude.{Bool, List, None, Option, Some, [], false, flat_map, if◌then◌else◌, map, nat_lt, option_map, refl, slice_get, suc, take, true, zero, ℕ, ◌%◌, ◌&&◌, ◌*◌, ◌++◌, ◌+◌, ◌-◌, ◌/◌, ◌<◌, ◌==◌, ◌∷◌, ◌≡◌, ◌≢◌, ◌≤◌, ◌⊎◌}
 use Rattle.mc_boot.proofs.Courses.{get_brought, get_moved, get_taken}
-use Rattle.mc_boot.specs.{facts.Lengths.{length-transfers}, Boot.{IsInside}, Plan.{brought_in, first_left, moved_up, taken_out, transfers}}
-use Rattle.mc_boot.specs.declared.transfer.Transfer.{Transfer}
+use Rattle.mc_boot.specs.{Boot.{IsInside}, Plan.{brought_in, first_left, moved_up, taken_out, transfers}, declared.transfer.Transfer.{Transfer}, facts.Lengths.{length-transfers}}
 use Rattle.mc_flash.specs.{Flash.{Content, IsSized, byte, size_of}, Geometry.{Geometry, IsLayout, greatest_sectors, trailer_bytes}, declared.op.Slot.{Slot}}
-use Rattle.mc_flash.specs.{declared.op.Slot.TheVariants.{Primary, Secondary}, facts.Changes.{Changed}, facts.Layouts.{data_sectors, small_unit}}
-use Rattle.mc_trailer.specs.Trailer.{entry_place, highest_entry, one_unit}
-use Rattle.mc_trailer.specs.facts.Entries.{blank_entry, entries_same, entry_kept_beside, highest_at, highest_none, written_entry}
-use Rattle.mc_trailer.specs.facts.Places.{entry_ends, entry_inside}
+use Rattle.mc_flash.specs.{declared.op.Slot.TheVariants.{Primary, Secondary}, facts.Layouts.{data_sectors, small_unit}}
+use Rattle.mc_trailer.specs.{Trailer.{entry_place, highest_entry}, facts.Entries.{blank_entry, entries_same, highest_at, highest_none, written_entry}, facts.Places.{entry_ends, entry_inside}}
 use lib.Seq.{take-suc, take_all}
 
 -- Where each sector's bytes come from, after transfers. No byte is in it.
@@ -83,9 +80,9 @@ number_up g n j k at_most before = grind arith
 pub number_below : (g : Geometry) (n k : ℕ) → n ≤ g.max_sectors → k < 3 * n → entry_number g n k < 3 * g.max_sectors
 number_below g n k at_most below = grind arith
 
--- The last of the first k entries begins with 1, and all above it are free.
+-- The last of the first k entries is written, and all above it are free.
 pub record Entries (g : Geometry) (n k : ℕ) (s : Content) : Type 0 where
-  pub last : 0 < k → byte s Primary (entry_place g (entry_number g n (k - 1))) ≡ 1
+  pub last : 0 < k → byte s Primary (entry_place g (entry_number g n (k - 1))) ≢ 255
   pub free : (e i : ℕ) → e < 3 * g.max_sectors → (0 < k → entry_number g n (k - 1) < e) → i < g.unit → byte s Primary (entry_place g e + i) ≡ 255
 
 -- the part of the trailer before the fields decides
@@ -99,25 +96,12 @@ entries_kept g n k s t ok at_most most same en = record {
 pub entries_none : (g : Geometry) (n : ℕ) (s : Content) → ((e i : ℕ) → e < 3 * g.max_sectors → i < g.unit → byte s Primary (entry_place g e + i) ≡ 255) → Entries g n 0 s
 entries_none g n s free = record { last = λ some. absurd (omega (arith, some)); free = λ e i below above h. free e i below h }
 
--- one entry more
-pub entry_step : (g : Geometry) (n k : ℕ) (s t : Content) → IsLayout g → n ≤ g.max_sectors → k < 3 * n → Entries g n k s → Changed s t Primary (entry_place g (entry_number g n k)) (one_unit g 1)
-    → Entries g n (k + 1) t
-entry_step g n k s t ok at_most below en ch = record {
-  last = λ some.
-      let E : ℕ → Type 0 = λ j. byte t Primary (entry_place g (entry_number g n j)) ≡ 1 in
-      subst E (omega arith) (ap (byte t Primary) (sym (add-zero (entry_place g (entry_number g n k)))) ∙ ch.inside 0 (omega arith));
-  free = λ e i high above h.
-      let over : entry_number g n k < e = (let D : ℕ → Type 0 = λ j. entry_number g n j < e in subst D (omega arith) (above (omega arith))) in
-      entry_kept_beside g s t (entry_number g n k) e 1 ok (number_below g n k at_most below) high (λ same. absurd (omega (arith, same, over))) ch i h
-      ∙ en.free e i high (λ some. omega (arith, over, number_up g n (k - 1) k at_most (omega (arith, some)))) h;
-}
-
 -- what is found of them
 pub entries_last : (g : Geometry) (n k : ℕ) (s : Content) → IsLayout g → IsSized g s → n ≤ g.max_sectors → 0 < k → k ≤ 3 * n → Entries g n k s → highest_entry g s ≡ Some (entry_number g n (k - 1))
 entries_last g n k s ok sized at_most some most en =
     let below : entry_number g n (k - 1) < 3 * g.max_sectors = number_below g n (k - 1) at_most (omega (arith, some, most)) in
     highest_at g s (entry_number g n (k - 1))
-    (written_entry g s (entry_number g n (k - 1)) 1 ok sized below (λ same. absurd (omega (arith, same))) (en.last some))
+    (written_entry g s (entry_number g n (k - 1)) (byte s Primary (entry_place g (entry_number g n (k - 1)))) ok sized below (en.last some) refl)
     (λ d over under. blank_entry g s d ok sized under (λ i h. en.free d i under (λ _. over) h))
 
 pub entries_not : (g : Geometry) (n : ℕ) (s : Content) → IsLayout g → IsSized g s → Entries g n 0 s → highest_entry g s ≡ None

@@ -56,9 +56,9 @@ new_first c g images kinds.Fail slot i ok is = absurd cc
 new_first c g images kinds.Panic slot i ok is = absurd cc
 
 pub goes_on : (x : PowerOn) (u : Content) (slot : Slot) (i : ℕ) → IsLayout x.geometry → slice_get (plan (again x u)).list 0 ≡ Some (Erase slot i) → i < data_sectors x.geometry slot
-    → is_resumed x.geometry u ≡ true
+    → is_resumed x.rules.profile x.geometry u ≡ true
 unfolding plan plan_with
-goes_on x u slot i ok first below = elim (cases_Bool (is_resumed x.geometry u)) [
+goes_on x u slot i ok first below = elim (cases_Bool (is_resumed x.rules.profile x.geometry u)) [
   | inl is ↦ is
   | inr no_ ↦ absurd (omega (arith, below, new_first x.rules.grain x.geometry (images_of u) (table_of x.rules.profile x.geometry u) slot i ok (rw no_ at first)))
 ]
@@ -88,13 +88,13 @@ module _ (g : Geometry) (e : Sector) (u t : Content) (ok : IsLayout g) (sized : 
       rw here (rw (written_same n (omega (arith, le))) refl)
 
   -- The plan of a swap that goes on is the same.
-  pub same_plan : (r : Rules) → is_resumed g u ≡ true → plan (record { rules = r; geometry = g; content = t }) ≡ plan (record { rules = r; geometry = g; content = u })
+  pub same_plan : (r : Rules) → is_resumed r.profile g u ≡ true → plan (record { rules = r; geometry = g; content = t }) ≡ plan (record { rules = r; geometry = g; content = u })
   unfolding plan plan_with
   same_plan r resumed =
       let one = trailer_same Primary in
       let two = trailer_same Secondary in
       let highest = written_same (3 * g.max_sectors) (omega arith) in
-      let too : is_resumed g t ≡ true = rw (one, two) resumed in
+      let too : is_resumed r.profile g t ≡ true = rw (one, two) resumed in
       rw (too, resumed, one, highest) refl
 
 -- What a list does that begins with erasing a sector is the same where contents are once that is erased.

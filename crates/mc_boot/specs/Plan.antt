@@ -235,7 +235,7 @@ resumed_plan c g primary highest =
 -- The plan of a boot, where that is asked of the images.
 unfoldable pub plan_with : Rules → Geometry → Images → Content → Plan
 plan_with r g images s =
-    if is_resumed g s then resumed_plan r.grain g (trailer_of g s Primary) (highest_entry g s)
+    if is_resumed r.profile g s then resumed_plan r.grain g (trailer_of g s Primary) (highest_entry g s)
     else new_plan r.grain g images (table_of r.profile g s)
 
 -- The plan of a boot from a flash.

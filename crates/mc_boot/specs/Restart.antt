@@ -122,6 +122,7 @@ abbrev pub forgets_reverts : Grain → Profile → Bool
 forgets_reverts grains.Call profile = false
 forgets_reverts grains.Unit profiles.One = true
 forgets_reverts grains.Unit profiles.Two = false
+forgets_reverts grains.Unit profiles.Three = false
 
 -- Each layout, kind and pair of images has a start.
 abbrev pub StartsExist : Type 0

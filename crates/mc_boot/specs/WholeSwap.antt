@@ -20,7 +20,7 @@ pub record TakeMost (g : Geometry) (a b : List ℕ) : Type 0 where
   pub second : BeginsImage g b
   pub most : div_ceil (max (image_size a) (image_size b)) g.sector ≡ greatest_sectors g
 
--- So many operations happen in the boot that swaps such images for a test, by either profile.
+-- So many operations happen in the boot that swaps such images for a test, by any profile.
 abbrev pub MakesSwap : Grain → Geometry → ℕ → Type 0
 MakesSwap c g n =
     (r : Rules) (a b : List ℕ) (s : Content) → r.grain ≡ c → TakeMost g a b → start_flash g starts.Test a b ≡ Some s

@@ -19,7 +19,7 @@ use crate::outcome::Outcome;
 use crate::transfer::{Copies, first_left};
 use crate::writes::is_test;
 use mc_flash::{Flash, FlashError, Layout, Op, Slot};
-use mc_trailer::{Flag, Rules, SwapType, Trailer, highest_entry, resumes, swap_type};
+use mc_trailer::{Flag, Rules, SwapType, Trailer, highest_entry, resumes_by, swap_type};
 
 /// A boot, by how many of its operations have happened. It is small and `Copy`: one that was kept beside a checkpoint of the
 /// flash serves again after `back_to`.
@@ -194,7 +194,7 @@ impl Boot {
     {
         let primary = Trailer::read(flash, Slot::Primary);
         let secondary = Trailer::read(flash, Slot::Secondary);
-        if resumes(&primary, &secondary) {
+        if resumes_by(rules.profile, &primary, &secondary) {
             Boot::resumed_boot(flash, rules, &primary)
         } else {
             let kind = swap_type(rules.profile, &primary, &secondary);

@@ -14,7 +14,7 @@ use mc_image::{one_reading, same_prefix};
 /// every image that ever runs was delivered, or left whole in the secondary by one that ran (`only`). No power-on erases a sector
 /// more than twice (`wear`).
 ///
-/// It holds by whole calls and unit by unit, and for both profiles. A revert unit by unit in the first profile can be forgotten
+/// It holds by whole calls and unit by unit, and for every profile. A revert unit by unit in the first profile can be forgotten
 /// where power is lost within the secondary's magic: then the image on trial stays.
 ///
 /// Whatever a running image erases or writes in the secondary is covered (`work`), and so are the starts of two images (`starts`).

@@ -8,7 +8,7 @@ use mc_image::{one_reading, same_prefix};
 /// after every list of power cuts that can occur, however long, the next boot ends what the start asked for: no operation of
 /// it is refused, it does not panic, and the image that the start names boots, whole, with the other whole in the secondary.
 ///
-/// It holds by whole calls and unit by unit, and for both profiles. The one exception is a revert unit by unit in the first
+/// It holds by whole calls and unit by unit, and for every profile. The one exception is a revert unit by unit in the first
 /// profile, which a cut within the secondary's magic makes the boot forget.
 ///
 /// A second round follows, of power cuts and a whole boot: it takes a test back that was left alone, keeps one that was

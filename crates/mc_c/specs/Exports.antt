@@ -34,7 +34,9 @@ abbrev pub grain_of : ℕ → Option Grain
 grain_of n = if n == 0 then Some grains.Call else if n == 1 then Some grains.Unit else None
 
 abbrev pub profile_of : ℕ → Option Profile
-profile_of n = if n == 1 then Some profiles.One else if n == 2 then Some profiles.Two else None
+profile_of n =
+    if n == 1 then Some profiles.One else if n == 2 then Some profiles.Two
+    else if n == 3 then Some profiles.Three else None
 
 abbrev pub rules_of : Source → Option Rules
 rules_of n = option_and_then (λ grain. option_map (λ profile. record { grain = grain; profile = profile }) (profile_of n.profile)) (grain_of n.grain)

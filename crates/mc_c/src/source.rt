@@ -9,7 +9,7 @@ use mc_options::Refusal;
 use mc_trailer::{Profile, Rules};
 use std::alloc::Global;
 
-/// The six numbers of a layout; the rules: `grain` 0 for whole calls and 1 for units, `profile` 1 or 2; and what the bytes are:
+/// The six numbers of a layout; the rules: `grain` 0 for whole calls and 1 for units, `profile` 1, 2 or 3; and what the bytes are:
 /// `kind` 0 (`none`), 1 (`test`), 2 (`perm`) or 3 (`revert`) of two images, and 4 of both slots of a flash.
 #[repr(C)]
 pub struct Source {
@@ -47,6 +47,7 @@ fn profile_of(number: u32) -> Option<Profile>
     match number {
         1 => Some(Profile::One),
         2 => Some(Profile::Two),
+        3 => Some(Profile::Three),
         _ => None,
     }
 }

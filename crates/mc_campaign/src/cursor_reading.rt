@@ -43,7 +43,7 @@ fn cursor_of(text: &str) -> Option<CampaignCursor>
 }
 
 impl CampaignCursor {
-    /// The cursor that a text says: `mc3:`, the grain (`call`, `unit`), `:`, the profile (`1`, `2`), `:`, the choice between the
+    /// The cursor that a text says: `mc3:`, the grain (`call`, `unit`), `:`, the profile (`1`, `2`, `3`), `:`, the choice between the
     /// rounds (`leave`, `confirm`), `:`, the start's digest in 64 lower-case digits, `:`, the most cuts (0 to 16), `:`, and the
     /// campaign. It takes no memory.
     ///

@@ -115,8 +115,10 @@ hexadecimal (b ∷ rest) =
 head : (grain : Grain) (profile : Profile) → NoFeed (head_text grain profile)
 head grains.Call profiles.One = literal (codes "mc1:") refl
 head grains.Call profiles.Two = literal (codes "mc2:call:2:") refl
+head grains.Call profiles.Three = literal (codes "mc2:call:3:") refl
 head grains.Unit profiles.One = literal (codes "mc2:unit:1:") refl
 head grains.Unit profiles.Two = literal (codes "mc2:unit:2:") refl
+head grains.Unit profiles.Three = literal (codes "mc2:unit:3:") refl
 
 pub cursor_feedless : (c : Cursor) → NoFeed (cursor_text c)
 cursor_feedless c =

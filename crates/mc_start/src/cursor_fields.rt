@@ -20,7 +20,7 @@ pub fn next_field(text: &str) -> Option<(&str, &str)>
     text.split_once(':')
 }
 
-/// Rules: the grain (`call`, `unit`), `:`, the profile (`1`, `2`) and `:`.
+/// Rules: the grain (`call`, `unit`), `:`, the profile (`1`, `2`, `3`) and `:`.
 #[derive(Clone, Copy, Debug)]
 pub struct RulesField(pub Rules);
 

@@ -27,7 +27,7 @@ fn rules_of(text: &str) -> Option<(Rules, &str)>
 
 impl Cursor {
     /// The cursor that a text says: `mc1:` for whole calls and the first profile, else `mc2:`, the grain (`call`, `unit`),
-    /// `:`, the profile (`1`, `2`) and `:`; then the start's digest in 64 lower-case digits, `:`, the most cuts (0 to 16),
+    /// `:`, the profile (`1`, `2`, `3`) and `:`; then the start's digest in 64 lower-case digits, `:`, the most cuts (0 to 16),
     /// `:`, and the schedule. It takes no memory.
     ///
     /// # Errors

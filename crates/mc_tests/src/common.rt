@@ -50,17 +50,17 @@ pub fn parts_of<'a>(rt: &impl Abort, text: &'a str, between: &str) -> (&'a str, 
     text.split_once(between).expect(rt, "two parts")
 }
 
-/// The rules of a name: those of whole calls or of units, in the first or the second profile.
+/// The rules of a name: those of whole calls or of units, in the profile of that number, 1 unless it has one.
 pub fn rules_named(name: &str) -> Rules {
     let grain = if name.starts_with("unit") {
         Grain::Unit
     } else {
         Grain::Call
     };
-    let profile = if name.ends_with('2') {
-        Profile::Two
-    } else {
-        Profile::One
+    let profile = match name.as_bytes().last() {
+        Some(b'2') => Profile::Two,
+        Some(b'3') => Profile::Three,
+        _ => Profile::One,
     };
     Rules { grain, profile }
 }

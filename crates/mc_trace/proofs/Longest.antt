@@ -59,7 +59,7 @@ of_plan P x idle new resumed =
     let g = x.geometry in
     let s = x.content in
     let c = x.rules.grain in
-    chosen P c g idle new resumed (is_resumed g s) (resumed_plan c g (trailer_of g s Primary) (highest_entry g s)) (new_plan c g (images_of s) (table_of x.rules.profile g s))
+    chosen P c g idle new resumed (is_resumed x.rules.profile g s) (resumed_plan c g (trailer_of g s Primary) (highest_entry g s)) (new_plan c g (images_of s) (table_of x.rules.profile g s))
     (λ _. of_resumed_plan P c g idle new resumed (trailer_of g s Primary) (highest_entry g s))
     (λ _. of_new_plan P c g idle new resumed (images_of s) (table_of x.rules.profile g s))
 

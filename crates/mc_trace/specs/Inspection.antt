@@ -6,7 +6,7 @@ use Rattle.mc_flash.specs.declared.op.Slot.TheVariants.{Primary, Secondary}
 use Rattle.mc_image.specs.{Valid.{Identity, id_of, image_fault}, declared.error.ImageError.{ImageError}}
 use Rattle.mc_image.specs.declared.error.ImageError.TheVariants as faults
 use Rattle.mc_trace.specs.{Hints.{hints_text}, SlotWords.{sectors_text}, Trace.{operation_text, outcome_lines}, Verdict.{verdict_text}}
-use Rattle.mc_trailer.specs.{Tables.{resumes, swap_type, trailer_text, type_text}, Trailer.{trailer_of}, declared.tables.Profile.{Profile}}
+use Rattle.mc_trailer.specs.{Tables.{resumes_by, swap_type, trailer_text, type_text}, Trailer.{trailer_of}, declared.tables.Profile.{Profile}}
 use Rattle.mc_trailer.specs.declared.trailer.Trailer.{Trailer}
 
 -- Both trailers, whether a boot goes on with a swap that was cut, and the type that the tables give.
@@ -15,7 +15,7 @@ both_text p s = codes "trailer primary " ++ (trailer_text p ++ (codes "\ntrailer
 
 unfoldable pub asked_text : Profile → Trailer → Trailer → List ℕ
 asked_text profile p s =
-    codes "\nresume " ++ ((if resumes p s then codes "yes" else codes "no") ++ (codes "\ntable " ++ (type_text (swap_type profile p s) ++ codes "\n")))
+    codes "\nresume " ++ ((if resumes_by profile p s then codes "yes" else codes "no") ++ (codes "\ntable " ++ (type_text (swap_type profile p s) ++ codes "\n")))
 
 unfoldable pub trailers_text : Profile → Geometry → Content → List ℕ
 trailers_text profile g s =

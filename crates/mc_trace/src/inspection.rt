@@ -19,7 +19,7 @@ use mc_explore::{Schedule, Start, replay};
 use mc_flash::{Flash, Layout, Op, Slot, blank};
 use mc_image::{ImageError, ImageView};
 use mc_output::{Line, MOST_LINE, write_text};
-use mc_trailer::{Profile, Trailer, resumes, swap_type};
+use mc_trailer::{Profile, Trailer, resumes_by, swap_type};
 use std::alloc::{AllocError, Global};
 use std::io::Write;
 
@@ -43,7 +43,7 @@ fn put_asked(line: &mut Line, profile: Profile, primary: &Trailer, secondary: &T
     ensures text { line.new ≡ line.old ++ asked_text profile primary.now secondary.now }
 {
     line.put("\nresume ");
-    line.put(if resumes(primary, secondary) {
+    line.put(if resumes_by(profile, primary, secondary) {
         "yes"
     } else {
         "no"

@@ -1,7 +1,7 @@
 -- The swap tables, and when a boot goes on with a swap that was cut. The tables are from MCUboot's design document
--- ("swap types"): each row names some fields of the two trailers, and the others may hold anything. The second profile,
--- and the rule by which a boot goes on, are this project's own choice.
-use Rattle.std.specs.Prelude.{Bool, List, [], codes, decimal, false, if◌then◌else◌, not, true, ℕ, ◌&&◌, ◌++◌, ◌∷◌, ◌≡◌}
+-- ("swap types"): each row names some fields of the two trailers, and the others may hold anything. The second and the third
+-- profile, and the rule by which a boot goes on, are this project's own choice.
+use Rattle.std.specs.Prelude.{Bool, List, [], codes, decimal, false, if◌then◌else◌, not, true, ℕ, ◌&&◌, ◌||◌, ◌++◌, ◌∷◌, ◌≡◌}
 use Rattle.hex.specs.Hex.{encode_lower}
 use Rattle.mc_flash.specs.{Flash.{Content}, Geometry.{Geometry}, declared.op.Slot.TheVariants.{Primary, Secondary}}
 use Rattle.mc_trailer.specs.{Trailer.{trailer_of}, declared.tables.Profile.{Profile}, declared.tables.SwapType.{SwapType}, declared.trailer.Flag.{Flag}}
@@ -40,10 +40,11 @@ asks_test p s = is_good s.magic && is_unset s.image_ok
 abbrev pub asks_perm : Trailer → Trailer → Bool
 asks_perm p s = is_good s.magic && is_set s.image_ok
 
--- A revert takes an unset magic of the secondary; in the second profile also a bad one.
+-- A revert takes an unset magic of the secondary; in the second profile and the third also a bad one.
 abbrev pub reverts_at : Profile → Magic → Bool
 reverts_at profiles.One magic = is_absent magic
 reverts_at profiles.Two magic = not (is_good magic)
+reverts_at profiles.Three magic = not (is_good magic)
 
 -- The row of a revert: a swap was finished, the primary is not confirmed, and nothing waits in the secondary.
 abbrev pub asks_revert : Profile → Trailer → Trailer → Bool
@@ -66,7 +67,17 @@ swap_type profile p s =
     else if asks_revert profile p s then kinds.Revert
     else kinds.None
 
+-- Another swap is asked for: the secondary is meant; in the third profile, it is clear for which of the two.
+abbrev pub asks_another : Profile → Trailer → Trailer → Bool
+asks_another profiles.One p s = is_good s.magic
+asks_another profiles.Two p s = is_good s.magic
+asks_another profiles.Three p s = asks_test p s || asks_perm p s
+
 -- A boot goes on where the primary is meant, its swap was not finished, and no other is asked for.
+abbrev pub resumes_by : Profile → Trailer → Trailer → Bool
+resumes_by profile p s = is_good p.magic && is_unset p.copy_done && not (asks_another profile p s)
+
+-- The same by the first two profiles.
 abbrev pub resumes : Trailer → Trailer → Bool
 resumes p s = is_good p.magic && is_unset p.copy_done && not (is_good s.magic)
 
@@ -74,8 +85,8 @@ resumes p s = is_good p.magic && is_unset p.copy_done && not (is_good s.magic)
 abbrev pub table_of : Profile → Geometry → Content → SwapType
 table_of profile g s = swap_type profile (trailer_of g s Primary) (trailer_of g s Secondary)
 
-abbrev pub is_resumed : Geometry → Content → Bool
-is_resumed g s = resumes (trailer_of g s Primary) (trailer_of g s Secondary)
+abbrev pub is_resumed : Profile → Geometry → Content → Bool
+is_resumed profile g s = resumes_by profile (trailer_of g s Primary) (trailer_of g s Secondary)
 
 -- How fields, types and profiles are written: this project's own texts.
 
@@ -100,6 +111,7 @@ type_text kinds.Panic = codes "panic"
 abbrev pub profile_text : Profile → List ℕ
 profile_text profiles.One = codes "1"
 profile_text profiles.Two = codes "2"
+profile_text profiles.Three = codes "3"
 
 -- The five fields of a trailer: the magic and the flags, then the type and the size of a swap. The type is a byte in two digits.
 abbrev pub flags_text : Trailer → List ℕ

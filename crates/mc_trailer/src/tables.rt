@@ -1,6 +1,14 @@
 //! The swap tables: what two trailers ask a boot to do.
 ghost use Rattle.std.specs.Prelude.{◌≡◌};
-ghost use Rattle.mc_trailer.specs.Tables.{reverts_at, asks_revert, Asks, swap_type, resumes};
+ghost use Rattle.mc_trailer.specs.Tables.{
+  reverts_at,
+  asks_another,
+  asks_revert,
+  Asks,
+  swap_type,
+  resumes,
+  resumes_by,
+};
 
 use crate::trailer::{Flag, Magic, Trailer};
 use mc_flash::Grain;
@@ -22,13 +30,16 @@ pub enum SwapType {
     Panic,
 }
 
-/// Which secondary magic a revert takes.
+/// Which tables are used: which magic of the secondary a revert takes, and what keeps a boot from going on with a swap.
 #[derive(Clone, Copy, Debug, PartialEq, Eq)]
 pub enum Profile {
-    /// An unset one.
+    /// A revert takes an unset one; a boot goes on unless the secondary has a good one.
     One,
-    /// An unset or a bad one.
+    /// A revert takes an unset or a bad one; a boot goes on unless the secondary has a good one.
     Two,
+    /// As the second, but a boot goes on unless the secondary asks for a test or an upgrade: a good magic beside an image-ok that is
+    /// neither set nor unset asks for nothing.
+    Three,
 }
 
 /// What happens whole or not at all, and which tables are used.
@@ -54,7 +65,7 @@ fn reverts_at(profile: Profile, magic: Magic) -> bool
 {
     match profile {
         Profile::One => matches!(magic, Magic::Unset),
-        Profile::Two => !matches!(magic, Magic::Good),
+        Profile::Two | Profile::Three => !matches!(magic, Magic::Good),
     }
 }
 
@@ -82,11 +93,30 @@ pub fn swap_type(profile: Profile, primary: &Trailer, secondary: &Trailer) -> Sw
     }
 }
 
+// Whether another swap is asked for than the one that was cut.
+fn asks_another(profile: Profile, primary: &Trailer, secondary: &Trailer) -> bool
+    ensures { result ≡ asks_another profile primary.now secondary.now }
+{
+    match profile {
+        Profile::One | Profile::Two => matches!(secondary.magic, Magic::Good),
+        Profile::Three => {
+            matches!(secondary.magic, Magic::Good) && !matches!(secondary.image_ok, Flag::Bad)
+        }
+    }
+}
+
 /// Whether a boot goes on with a swap that was cut. It takes no memory.
+pub fn resumes_by(profile: Profile, primary: &Trailer, secondary: &Trailer) -> bool
+    ensures { result ≡ resumes_by profile primary.now secondary.now }
+{
+    matches!(primary.magic, Magic::Good)
+        && matches!(primary.copy_done, Flag::Unset)
+        && !asks_another(profile, primary, secondary)
+}
+
+/// The same by the first two profiles.
 pub fn resumes(primary: &Trailer, secondary: &Trailer) -> bool
     ensures { result ≡ resumes primary.now secondary.now }
 {
-    !matches!(secondary.magic, Magic::Good)
-        && matches!(primary.magic, Magic::Good)
-        && matches!(primary.copy_done, Flag::Unset)
+    resumes_by(Profile::One, primary, secondary)
 }

@@ -78,7 +78,7 @@ impl fmt::Display for SwapType {
 }
 
 impl Profile {
-    /// The profile that a text names: `1` or `2`. It takes no memory.
+    /// The profile that a text names: `1`, `2` or `3`. It takes no memory.
     pub fn read(text: &str) -> Option<Profile>
         ensures { MatchOption result ((p : Profile) → text.now ≡ profile_text p → ⊥)
             (λ p. text.now ≡ profile_text p) }
@@ -86,6 +86,7 @@ impl Profile {
         match text {
             "1" => Some(Profile::One),
             "2" => Some(Profile::Two),
+            "3" => Some(Profile::Three),
             _ => None,
         }
     }
@@ -98,6 +99,7 @@ impl Profile {
         match self {
             Profile::One => "1",
             Profile::Two => "2",
+            Profile::Three => "3",
         }
     }
 }

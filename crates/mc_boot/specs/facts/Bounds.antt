@@ -157,7 +157,7 @@ plan_bounded x ok =
     let g = x.geometry in
     let s = x.content in
     let c = x.rules.grain in
-    chosen_plan c g (is_resumed g s) (resumed_plan c g (trailer_of g s Primary) (highest_entry g s)) (new_plan c g (images_of s) (table_of x.rules.profile g s))
+    chosen_plan c g (is_resumed x.rules.profile g s) (resumed_plan c g (trailer_of g s Primary) (highest_entry g s)) (new_plan c g (images_of s) (table_of x.rules.profile g s))
     (λ _. resumed_plan_bounded c g (trailer_of g s Primary) (highest_entry g s) ok)
     (λ _. new_plan_bounded c g (images_of s) (table_of x.rules.profile g s) ok)
 

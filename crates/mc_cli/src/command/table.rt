@@ -349,9 +349,9 @@ static SOURCE: [Word; 4] = [
 /// Which swap tables are used.
 const PROFILE: Word = Word {
     name: "profile",
-    takes: Takes::OneOf("PROFILE", &["1", "2"]),
+    takes: Takes::OneOf("PROFILE", &["1", "2", "3"]),
     default: Some("1"),
-    help: "Revert at a secondary magic unset (1), or bad too (2)",
+    help: "Revert at a bad magic too (2), and resume more (3)",
     ..FLAG
 };
 

@@ -98,16 +98,17 @@ fn are_shown<F: Flash>(rt: &impl Abort, flash: &mut F, rules: Rules, boots: &str
 /// A line has some rules, a flash, and the cuts of the boots from there, which follow each other under each of the rules. A boot
 /// that makes no operations has no cut.
 ///
-/// Boots by calls, in both profiles. A revert that was cut between its preparation and the erase of the secondary's trailer is
+/// Boots by calls, in each profile. A revert that was cut between its preparation and the erase of the secondary's trailer is
 /// followed by a swap for good, after which nothing is swapped, and there is no cut. Then boots from flashes that hold no images:
 /// another type is none; where copy-done reads as unset it can't be written; then with status entries. Then a primary that begins
 /// with an image but for its last entry, of which the swap-size makes an empty one: it is too large then; the area's length stands
-/// before it, and an entry up to the swap-size after it.
+/// before it, and an entry up to the swap-size after it. Before that, an upgrade that is under way, where the secondary asks for none that is
+/// clear: the third profile alone goes on with it.
 ///
 /// Boots by units: a test and its revert in either profile, where after one half of the secondary's magic the first one swaps
 /// nothing; in both, a swap for good, and boots from flashes that hold no images.
 const CASES: &str = "\
-call-1,call-2 IMAGES 5:18 9:14 13:9 17:5 18:1 / 4:23 10:- 14:14 18:9 22:5 23:1
+call-1,call-2,call-3 IMAGES 5:18 9:14 13:9 17:5 18:1 / 4:23 10:- 14:14 18:9 22:5 23:1
 call-1,call-2 IMAGES,1768=01 6:19 10:14 14:9 18:5 19:1 / 0:-
 call-1,call-2 BEGUN,984=02 5:14 9:9 13:5 14:1
 call-1,call-2 BEGUN,984=03 5:15 9:10 13:6 14:2 15:1
@@ -120,9 +121,11 @@ call-1,call-2 BEGUN,984=02,912=01 4:5 5:1
 call-1,call-2 BEGUN,984=02,920=01 1:1
 call-1,call-2 BEGUN,984=03,920=01 1:2 2:1
 call-1,call-2 BEGUN,984=02,888=01 0:-
+call-1,call-2 IMAGES,976=50000000,984=03,1000=01,1008=MAGIC,1768=03 0:-
+call-3 IMAGES,976=50000000,984=03,1000=01,1008=MAGIC,1768=03 5:14 9:9 13:5 14:1
 call-1 IMAGES,42=ac03,80=a0007c03 3:18 5:- 9:14 13:9 17:5 18:1
 unit-1 IMAGES 6:109 40:104 74:69 108:35 109:1 / 4:115 12:- 46:104 80:69 114:35 115:1
-unit-2 IMAGES 6:109 40:104 74:69 108:35 109:1 / 5:115 12:- 46:104 80:69 114:35 115:1
+unit-2,unit-3 IMAGES 6:109 40:104 74:69 108:35 109:1 / 5:115 12:- 46:104 80:69 114:35 115:1
 unit-1,unit-2 IMAGES,1768=01 7:110 41:104 75:69 109:35 110:1
 unit-1,unit-2 BEGUN,984=02 35:104 69:69 103:35 104:1
 unit-1,unit-2 BEGUN,984=03 35:105 69:70 103:36 104:2 105:1

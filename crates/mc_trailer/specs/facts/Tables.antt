@@ -1,7 +1,7 @@
 -- What follows for the swap tables. Proved here, so that the crates above can cite it.
-use Rattle.std.specs.Prelude.{◌≡◌, Bool, true, false, ◌&&◌, if◌then◌else◌, ◌↔◌, refl}
+use Rattle.std.specs.Prelude.{◌≡◌, ◌≢◌, Bool, true, false, ◌&&◌, ◌||◌, if◌then◌else◌, ◌↔◌, refl}
 use Rattle.std.proofs.Common.{subst}
-use Rattle.mc_trailer.specs.{Tables.{is_good, is_set, is_unset, reverts_at, asks_test, asks_perm, asks_revert, Asks, swap_type}, declared.trailer.Magic.{Magic}}
+use Rattle.mc_trailer.specs.{Tables.{asks_another, is_good, is_set, is_unset, reverts_at, asks_test, asks_perm, asks_revert, Asks, swap_type}, declared.trailer.Magic.{Magic}}
 use Rattle.mc_trailer.specs.declared.trailer.Magic.TheVariants as magics
 use Rattle.mc_trailer.specs.declared.trailer.Flag.{Flag}
 use Rattle.mc_trailer.specs.declared.trailer.Flag.TheVariants as flags
@@ -25,8 +25,34 @@ not_both flags.Bad is = absurd cc
 not_good : (profile : Profile) (m : Magic) → is_good m ≡ true → reverts_at profile m ≡ false
 not_good profiles.One magics.Good is = refl
 not_good profiles.Two magics.Good is = refl
+not_good profiles.Three magics.Good is = refl
 not_good profile magics.Unset is = absurd cc
 not_good profile magics.Bad is = absurd cc
+
+-- What keeps a boot from going on with a swap.
+pub asks_none : (profile : Profile) (p s : Trailer) → is_good s.magic ≡ false → asks_another profile p s ≡ false
+asks_none profiles.One p s not_so = not_so
+asks_none profiles.Two p s not_so = not_so
+asks_none profiles.Three p s not_so = rw not_so refl
+
+pub asks_clearly : (profile : Profile) (p s : Trailer) → s.magic ≡ magics.Good → (s.image_ok ≡ flags.Bad → profile ≢ profiles.Three) → asks_another profile p s ≡ true
+asks_clearly profiles.One p s good clear = rw good refl
+asks_clearly profiles.Two p s good clear = rw good refl
+asks_clearly profiles.Three p s good clear = rw good (one_of s.image_ok refl)
+  where
+    one_of : (f : Flag) → s.image_ok ≡ f → (is_unset f || is_set f) ≡ true
+    one_of flags.Set is = refl
+    one_of flags.Unset is = refl
+    one_of flags.Bad is = absurd (clear is refl)
+
+pub asks_neither : (profile : Profile) (p s : Trailer) → asks_another profile p s ≡ false → (asks_test p s ≡ false) × (asks_perm p s ≡ false)
+asks_neither profiles.One p s none = (rw none refl, rw none refl)
+asks_neither profiles.Two p s none = (rw none refl, rw none refl)
+asks_neither profiles.Three p s none = either (asks_test p s) (asks_perm p s) none
+  where
+    either : (a b : Bool) → (a || b) ≡ false → (a ≡ false) × (b ≡ false)
+    either true b none = absurd cc
+    either false b none = (refl, none)
 
 without_second : (a b c d : Bool) → b ≡ false → (a && b && c && d) ≡ false
 without_second a b c d is = rw is (closed a)

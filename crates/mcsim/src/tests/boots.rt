@@ -31,6 +31,8 @@ $ boot WORKED --kind test IMAGES --grain unit --profile 1
 result boot; type test; ops 109; SWAPPED; next revert
 $ boot WORKED --kind test IMAGES --grain unit --profile 2
 result boot; type test; ops 109; SWAPPED; next revert
+$ boot WORKED --kind test IMAGES --grain unit --profile 3
+result boot; type test; ops 109; SWAPPED; next revert
 $ boot WORKED --kind perm IMAGES --grain unit --profile 1
 result boot; type perm; ops 110; SWAPPED; next none
 $ boot WORKED --kind perm IMAGES --grain unit --profile 2
@@ -50,6 +52,8 @@ result boot; type none; ops 0; KEPT; next none
 $ replay WORKED --kind revert IMAGES --grain unit --schedule 4 --profile 1
 result boot; type none; ops 0; KEPT; next none
 $ replay WORKED --kind revert IMAGES --grain unit --schedule 4 --profile 2
+result boot; type revert; ops 115; SWAPPED; next none
+$ replay WORKED --kind revert IMAGES --grain unit --schedule 4 --profile 3
 result boot; type revert; ops 115; SWAPPED; next none
 $ replay WORKED --kind test IMAGES --schedule 4.4.4.4.4
 result boot; type test; ops 18; SWAPPED; next revert
@@ -79,7 +83,8 @@ $ replay WORKED --kind test IMAGES --schedule 5.9.9.1
 
 /// Flashes that no swap left: erased, only asked for a swap, begun with no size, with no type, with an entry of the last
 /// transfer and of none; the first image is lost, and the second does not fit, with its 513 bytes: its header, 441 zeros and
-/// the entry of its digest.
+/// the entry of its digest. Then an upgrade that is under way, whose secondary has a good magic and a bad image-ok, as the first erase of
+/// its trailer can leave it where power fails within it: the third profile alone goes on with it.
 const FLASHES: &str = "\
 $ boot WORKED --flash in < 1792:0=ff
 result none; type none; ops 0; primary none; secondary none; next none
@@ -99,6 +104,20 @@ $ boot WORKED --flash in < 1792:1024=second,1776=MAGIC
 result boot; type test; ops 18; primary SECOND; secondary none; next fail
 $ boot WORKED --flash in < 1792:0=first,1024=second,1036=b901,1056=zeros,1497=0769280010002000,1505=LARGER,1776=MAGIC
 result boot; type fail; ops 0; primary FIRST; secondary 2.0.0+0 513 LARGER; next fail
+$ boot WORKED --flash in --profile 1 < 1792:0=first,1024=second,976=50000000,984=03,1000=01,1008=MAGIC,1768=03,1776=MAGIC
+result boot; type none; ops 0; KEPT; next none
+$ boot WORKED --flash in --profile 2 < 1792:0=first,1024=second,976=50000000,984=03,1000=01,1008=MAGIC,1768=03,1776=MAGIC
+result boot; type none; ops 0; KEPT; next none
+$ boot WORKED --flash in --profile 3 < 1792:0=first,1024=second,976=50000000,984=03,1000=01,1008=MAGIC,1768=03,1776=MAGIC
+result boot; type perm; ops 14; SWAPPED; next none
+$ type WORKED --flash in --profile 3 < 1792:976=50000000,984=03,1000=01,1008=MAGIC,1768=03,1776=MAGIC
+primary magic=good image-ok=set copy-done=unset swap-info=0x03 swap-size=80
+secondary magic=good image-ok=bad copy-done=unset swap-info=0xff swap-size=4294967295
+resume yes; table none
+$ type WORKED --flash in --profile 2 < 1792:976=50000000,984=03,1000=01,1008=MAGIC,1768=03,1776=MAGIC
+primary magic=good image-ok=set copy-done=unset swap-info=0x03 swap-size=80
+secondary magic=good image-ok=bad copy-done=unset swap-info=0xff swap-size=4294967295
+resume no; table none
 ";
 
 /// A line has the kind of a start and the type of the last boot that is printed; the type of the boot after a cut of the

@@ -95,6 +95,7 @@ const SCHEDULES: &str = "\
 7954 perm --cuts 2 --grain unit --profile 1
 8419 revert --cuts 2 --grain unit --profile 1
 8534 revert --cuts 2 --grain unit --profile 2
+8534 revert --cuts 2 --grain unit --profile 3
 ";
 
 static TABLES: [Table; 3] = [

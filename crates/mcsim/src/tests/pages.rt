@@ -33,7 +33,8 @@ SMALL 2 1000 547 b82383337f19d7cf22480a3c449c34cb669727b279e1d527a2fe7e428ea95a2
 TWO 2 1000 203 721e5f4d55d96c91f80cb9f91f85c274c023cd6ce55e8f890cbc53ccd1909994 test
 ";
 
-/// Pages of cuts between write units, in the same form.
+/// Pages of cuts between write units, in the same form. No cut of a start leaves a flash that the third profile boots otherwise than the
+/// second.
 const UNIT_PAGES: &str = "\
 WORKED 1 1000 111 741fe452e0061a1afc9de69b49afe5b6b9a04fbba9b8a4ac97cde553a74c5b2e test --grain unit --profile 1
 WORKED 2 100000 7838 a110c6b68c6d7a1a8febef3eaa3841d3a12c75163c870f95e8589bf040e1db84 test --grain unit --profile 1
@@ -46,7 +47,9 @@ WORKED 2 100000 7955 0f1b8b0488927c50a8fdcc62143b968539eab663d06aab5dc1ee6a89121
 WORKED 1 1000 117 dd41bcc4988457c2a68dfb49cf4cb7dde40aeb0055aa1e9f2cc18e589fa066c5 revert --grain unit --profile 1
 WORKED 2 100000 8420 95c4baa6b32f4a7c2d90a80d2b943a074fff8a421f7521c7d0d1c83a0da4a0ce revert --grain unit --profile 1
 WORKED 1 1000 117 8d927f6b93714a3d2d24456dd20981c391e9d9ab53efbb6fa115741afde0d27e revert --grain unit --profile 2
+WORKED 1 1000 117 8d927f6b93714a3d2d24456dd20981c391e9d9ab53efbb6fa115741afde0d27e revert --grain unit --profile 3
 WORKED 2 100000 8535 45be426b5ff6d7ec8cc25b702934f4f548237d0dc55da7bd6ec560878bea233b revert --grain unit --profile 2
+WORKED 2 100000 8535 45be426b5ff6d7ec8cc25b702934f4f548237d0dc55da7bd6ec560878bea233b revert --grain unit --profile 3
 ";
 
 /// Flashes, and images that ask for nothing.
@@ -85,6 +88,12 @@ $ explore WORKED --kind test IMAGES --grain unit --profile 2 --cuts 1 --limit 1 
 0 boot test 109 2.0.0+0/80 1.0.0+0/80 revert; next mc2:unit:2:START:1:0
 $ explore WORKED --kind test IMAGES --grain unit --profile 2 --cuts 1 --limit 1 --cursor mc2:unit:2:START:1:107
 108 boot test 1 2.0.0+0/80 1.0.0+0/80 revert; next mc2:unit:2:START:1:108
+$ explore WORKED --kind test IMAGES --grain unit --profile 3 --cuts 1 --limit 1 --cursor mc2:unit:3:START:1:-
+0 boot test 109 2.0.0+0/80 1.0.0+0/80 revert; next mc2:unit:3:START:1:0
+$ explore WORKED --kind test IMAGES --grain unit --profile 2 --cuts 1 --limit 1 --cursor mc2:unit:3:START:1:-
+! mcsim: E61 OtherRules; exit 1
+$ explore WORKED --kind test IMAGES --profile 3 --cuts 1 --limit 1 --cursor mc2:call:3:START:1:16
+17 boot test 1 2.0.0+0/80 1.0.0+0/80 revert; next mc2:call:3:START:1:17
 $ explore WORKED --kind test IMAGES --profile 2 --cuts 1 --limit 1 --cursor mc2:call:2:START:1:16
 17 boot test 1 2.0.0+0/80 1.0.0+0/80 revert; next mc2:call:2:START:1:17
 $ explore WORKED --kind test IMAGES --cuts 1 --after 17

@@ -91,7 +91,7 @@ mc1:START0:1:-
 mc1::START:1:-
 mc2:START:1:-
 mc2:call:1:START:1:-
-mc2:unit:3:START:1:-
+mc2:unit:4:START:1:-
 mc2:unit:01:START:1:-
 mc2:word:1:START:1:-
 mc2:Unit:2:START:1:-
@@ -131,7 +131,7 @@ mc3:1:leave:START:1:-
 mc3:call:1:stay:START:1:-
 mc3:call:1:Leave:START:1:-
 mc3:call:1::START:1:-
-mc3:call:3:leave:START:1:-
+mc3:call:4:leave:START:1:-
 mc3:call:01:leave:START:1:-
 mc3:word:1:leave:START:1:-
 mc3:call:1:leave:START0:1:-

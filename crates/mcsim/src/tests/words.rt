@@ -28,7 +28,7 @@ type --sector 256 --unit 8 --max-sectors 4 --chunk 128 --primary 4 --flash a
 type WORKED --kind swap --image-a a --image-b b
 type WORKED --flash a --flash b
 type WORKED --flash a --grain call
-type WORKED --flash a --profile 3
+type WORKED --flash a --profile 4
 boot WORKED --flash a --grain word
 boot WORKED --flash a --profile 0
 ";

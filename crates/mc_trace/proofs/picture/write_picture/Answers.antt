@@ -9,13 +9,17 @@ pub returns-clause-drawn : goal.returns-clause-drawn
 returns-clause-drawn g c =
     let e = c.args.expectation.now in
     let look = c.look_for-look.ensures ∙ ap (λ (x : Geometry). look_for x e c.args.span) c.layout.ensures.value in
-    drawn e c.args.span (begun c.args.start.now) c.args.schedule.now c.look_for-look.result c.in_ok-verdict.verdict c.in_ok-verdict.ensures.verdict look _ _ c.write_page.result c.write_page.ensures.written
+    let start = begun c.args.start.now in
+    drawn e c.args.span start c.args.schedule.now c.look_for-look.result c.in_ok-verdict.verdict c.in_ok-verdict.ensures.verdict look _ _ c.write_page.result
+    c.write_page.ensures.written
 
 pub returns-clause-begun : goal.returns-clause-begun
 returns-clause-begun g c =
     let e = c.args.expectation.now in
     let look = c.look_for-look.ensures ∙ ap (λ (x : Geometry). look_for x e c.args.span) c.layout.ensures.value in
-    begun_page e c.args.span (begun c.args.start.now) c.args.schedule.now c.look_for-look.result c.in_ok-verdict.verdict c.in_ok-verdict.ensures.verdict look _ _ c.write_page.result c.write_page.ensures.written
+    let start = begun c.args.start.now in
+    begun_page e c.args.span start c.args.schedule.now c.look_for-look.result c.in_ok-verdict.verdict c.in_ok-verdict.ensures.verdict look _ _ c.write_page.result
+    c.write_page.ensures.written
 
 pub returns-clause-refused : goal.returns-clause-refused
 returns-clause-refused g c = refused (begun c.args.start.now) c.args.schedule.now _ _ c.write_page.result c.write_page.ensures.err
