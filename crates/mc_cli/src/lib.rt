@@ -10,4 +10,4 @@ mod watched;
 pub use command::parse;
 pub use explanations::{Explanation, all_explanations, explanation_of};
 pub use imgtool::left_out;
-pub use watched::{Unopened, WatchedFiles, WatchedWriter};
+pub use watched::{Failed, WatchedFiles, WatchedWriter};

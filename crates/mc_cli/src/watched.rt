@@ -1,4 +1,5 @@
-//! Files that remember which of them was opened last, and why one could not be opened; a writer that remembers why a write failed.
+//! Files that remember which of them was opened last, and why one could not be opened or written; a writer that remembers why a write
+//! failed.
 use std::alloc::{Allocator, Global};
 use std::cell::RefCell;
 use std::fs::{Metadata, OpenOptions, Permissions};
@@ -7,21 +8,21 @@ use std::io::{ErrorKind, Write};
 use std::path::PathBuf;
 use std::rt::Files;
 
-/// A file that could not be opened or made, and why.
+/// A file that could not be opened, made or written, and why.
 #[derive(Drop)]
-pub struct Unopened {
+pub struct Failed {
     pub path: String,
     pub error: io::Error,
 }
 
-/// The same files, with the last that was opened, the last that could not be opened or made, and a line of one that is refused.
+/// The same files, with the last that was opened, the last that failed, and what is refused in a script.
 #[derive(Drop)]
 pub struct WatchedFiles<'f, F: Files> {
     files: &'f F,
     alloc: Global,
     opened: RefCell<Option<String>>,
-    unopened: RefCell<Option<Unopened>>,
-    line: RefCell<Option<String>>,
+    failed: RefCell<Option<Failed>>,
+    reason: RefCell<Option<String>>,
 }
 
 impl<'f, F: Files> WatchedFiles<'f, F> {
@@ -31,8 +32,8 @@ impl<'f, F: Files> WatchedFiles<'f, F> {
             files,
             alloc,
             opened: RefCell::new(None),
-            unopened: RefCell::new(None),
-            line: RefCell::new(None),
+            failed: RefCell::new(None),
+            reason: RefCell::new(None),
         }
     }
 
@@ -44,36 +45,39 @@ impl<'f, F: Files> WatchedFiles<'f, F> {
         }
     }
 
-    /// Remembers the line of a script that is refused, if there is memory for it.
-    pub fn keep_line(&self, text: &str) {
-        if let Ok(mut line) = self.line.try_borrow_mut() {
-            *line = String::from_str(self.alloc, text).ok();
+    /// Remembers what is refused in a script.
+    pub fn keep_reason(&self, text: String) {
+        if let Ok(mut reason) = self.reason.try_borrow_mut() {
+            *reason = Some(text);
         }
     }
 
-    /// Hands out the line that was remembered, if there is one.
-    pub fn take_line(&self) -> Option<String> {
-        match self.line.try_borrow_mut() {
-            Ok(mut line) => line.take(),
+    /// Hands out what is refused in a script, if that was remembered.
+    pub fn take_reason(&self) -> Option<String> {
+        match self.reason.try_borrow_mut() {
+            Ok(mut reason) => reason.take(),
             Err(_) => None,
         }
     }
 
-    /// The last that could not be opened or made, if there is one.
-    pub fn unopened(self) -> Option<Unopened> {
-        self.unopened.into_inner()
+    /// Remembers that the file of a path failed, and why, if there is memory for the path.
+    pub fn keep_failed(&self, path: &str, error: io::Error) {
+        if let Ok(path) = String::from_str(self.alloc, path)
+            && let Ok(mut failed) = self.failed.try_borrow_mut()
+        {
+            *failed = Some(Failed { path, error });
+        }
     }
 
-    /// Hands on what a call on a path gave. Where it failed, that is remembered, if there is memory for the path.
+    /// The last that could not be opened, made or written, if there is one.
+    pub fn failed(self) -> Option<Failed> {
+        self.failed.into_inner()
+    }
+
+    /// Hands on what a call on a path gave. Where it failed, that is remembered.
     fn note<T>(&self, path: &str, given: io::Result<T>) -> io::Result<T> {
-        if let Err(error) = &given
-            && let Ok(path) = String::from_str(self.alloc, path)
-            && let Ok(mut unopened) = self.unopened.try_borrow_mut()
-        {
-            *unopened = Some(Unopened {
-                path,
-                error: *error,
-            });
+        if let Err(error) = &given {
+            self.keep_failed(path, *error);
         }
         given
     }

@@ -6,7 +6,7 @@ use Rattle.mc_flash.specs.Geometry.{Geometry}
 use Rattle.mc_start.specs.Start.{Started, Starts, begun}
 use Rattle.mc_trailer.specs.declared.tables.Rules.{Rules}
 use Rattle.mc_vectors.specs.{Cases.{AtMost}, Locating.{IsNearest}}
-use Rattle.mc_command.specs.{declared.commands.inspect.Found.{Found}, declared.commands.inspect.Images.{Images}}
+use Rattle.mc_command.specs.{declared.inspect.Found.{Found}, declared.inspect.Images.{Images}}
 
 -- The image in the primary at the start of a swap of that kind, and the one in the secondary: a revert takes the test of b back.
 abbrev pub first_of : {A : Type 0} → Kind → A → A → A

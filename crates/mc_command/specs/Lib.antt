@@ -1,5 +1,2 @@
 pub mod Inspections
-pub mod Verdicts
-pub mod Sessions
-pub mod Vectors
 pub mod Pictures

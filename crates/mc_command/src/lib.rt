@@ -3,15 +3,15 @@
 
 ghost use Rattle.std.specs.Prelude.{◌≤◌};
 
-mod commands;
-mod creation;
-mod explorable;
-mod verdict;
+mod inspect;
+mod picture;
 
 use clap::error::ErrorKind;
 use clap::{ArgMatches, Error};
-use commands::rounds::{RoundText, print as print_rounds};
-use commands::{census, explore};
+use mc_actions::rounds::{RoundText, print as print_rounds};
+use mc_actions::{
+    create, dumpinfo, explain, layout, life, replay, rounds, trace, trailers, vectors, verify,
+};
 use mc_campaign::TwoRounds;
 use mc_cli::{WatchedFiles, WatchedWriter, left_out, parse};
 use mc_explore::OneRound;
@@ -19,6 +19,7 @@ use mc_options::{
     Refusal, asks_file, has_two_rounds, print_cost, print_note, report_file, report_reason,
     span_options, view_options, with_files,
 };
+use mc_verdict::{census, explore};
 use std::alloc::Global;
 use std::io::{Read, Write};
 use std::rt::Files;
@@ -138,12 +139,12 @@ fn run_command<F: Files, R: Read, O: Write, E: Write>(
     err: &mut E,
 ) -> Result<(), Refusal> {
     match name {
-        "create" => commands::create::run(files, alloc, arguments, input, out),
-        "verify" => commands::verify::run(files, arguments, input, out),
-        "dumpinfo" => commands::dumpinfo::run(files, alloc, arguments, input, out, err),
-        "layout" => commands::layout::run(arguments, out),
-        "life" => commands::life::run(files, alloc, arguments, input, out),
-        "explain" => commands::explain::run(arguments, out),
+        "create" => create::run(files, alloc, arguments, input, out),
+        "verify" => verify::run(files, arguments, input, out),
+        "dumpinfo" => dumpinfo::run(files, alloc, arguments, input, out, err),
+        "layout" => layout::run(arguments, out),
+        "life" => life::run(files, alloc, arguments, input, out),
+        "explain" => explain::run(arguments, out),
         _ => run_boots(files, alloc, name, arguments, out),
     }
 }
@@ -157,12 +158,12 @@ fn run_boots<F: Files, O: Write>(
     out: &mut O,
 ) -> Result<(), Refusal> {
     match name {
-        "type" => commands::trailers::run(files, alloc, arguments, out),
-        "boot" => commands::replay::boot(files, alloc, arguments, out),
-        "picture" => commands::picture::run(files, alloc, arguments, out),
-        "vectors" => commands::vectors::run(files, alloc, arguments, out),
-        "inspect" => commands::inspect::run(files, alloc, arguments, out),
-        "locate" => commands::inspect::find(files, alloc, arguments, out),
+        "type" => trailers::run(files, alloc, arguments, out),
+        "boot" => replay::boot(files, alloc, arguments, out),
+        "picture" => picture::run(files, alloc, arguments, out),
+        "vectors" => vectors::run(files, alloc, arguments, out),
+        "inspect" => inspect::run(files, alloc, arguments, out),
+        "locate" => inspect::find(files, alloc, arguments, out),
         "replay" | "trace" | "sectors" => run_schedule(files, alloc, name, arguments, out),
         _ => run_exploration(files, alloc, name, arguments, out),
     }
@@ -177,7 +178,7 @@ fn run_schedule<F: Files, O: Write>(
     out: &mut O,
 ) -> Result<(), Refusal> {
     match (name, has_two_rounds(arguments)?) {
-        ("replay", true) => commands::rounds::replay(files, alloc, arguments, out),
+        ("replay", true) => rounds::replay(files, alloc, arguments, out),
         ("trace", true) => {
             let text = RoundText::Operations(span_options(arguments)?);
             print_rounds(files, alloc, arguments, text, out)
@@ -186,9 +187,9 @@ fn run_schedule<F: Files, O: Write>(
             let text = RoundText::Sectors(view_options(arguments)?);
             print_rounds(files, alloc, arguments, text, out)
         }
-        ("replay", false) => commands::replay::run(files, alloc, arguments, out),
-        ("trace", false) => commands::trace::run(files, alloc, arguments, out),
-        (_, false) => commands::trace::sectors(files, alloc, arguments, out),
+        ("replay", false) => replay::run(files, alloc, arguments, out),
+        ("trace", false) => trace::run(files, alloc, arguments, out),
+        (_, false) => trace::sectors(files, alloc, arguments, out),
     }
 }
 

@@ -21,6 +21,7 @@ pub use error::{EventError, ScriptError};
 pub use event::Event;
 pub use files::{File, find};
 pub use life::{LifeError, replay_life};
+pub use line::said;
 pub use request::Request;
 pub use script::Script;
 pub use wear::Wear;

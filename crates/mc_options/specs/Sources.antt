@@ -3,7 +3,8 @@ use Rattle.std.specs.{Prelude.{◌≡◌, ℕ, ◌^◌, List, Vec, Ok, ⊤}, dec
 use denote.Ref.{Bor}
 use Rattle.mc_flash.specs.Geometry.{Geometry}
 use Rattle.mc_start.specs.Start.{Started, Starts, Gives, of_flash}
-use Rattle.mc_options.specs.{declared.options.FlashOptions.{FlashOptions}, declared.options.Source.{Source}}
+use Rattle.clap.specs.declared.parser.matches.Found.{Found}
+use Rattle.mc_options.specs.{Arguments.{GivesFlash}, declared.options.FlashOptions.{FlashOptions}, declared.options.Source.{Source}}
 use Rattle.mc_options.specs.declared.options.Source.TheVariants as sources
 
 -- What reading gives for a path and a limit.
@@ -27,3 +28,9 @@ ComesOf reads o s =
 -- The same of some bytes.
 abbrev pub IsStartOf : FlashOptions → Started → Type 0
 IsStartOf = ComesOf (λ path limit bytes. ⊤)
+
+-- The arguments give a source, and the start is of its files.
+pub record GivesStart (found : Found) (s : Started) : Type 0 where
+  pub options : FlashOptions
+  pub given : GivesFlash found options
+  pub made : IsStartOf options s

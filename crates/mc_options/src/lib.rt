@@ -1,6 +1,7 @@
 //! What the words of a command line say; the files that it reads and writes; and its refusals, with their reasons.
 #![tactic(auto)]
 
+mod blocks;
 mod cuts;
 mod heads;
 mod layout_file;
@@ -14,6 +15,7 @@ mod same_file;
 mod source;
 mod usual;
 
+pub use blocks::{finish, in_blocks};
 pub use layout_file::{asks_file, with_files};
 pub use notes::{print_cost, print_note};
 pub use numbers::NumberOption;

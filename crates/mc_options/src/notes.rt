@@ -61,7 +61,7 @@ pub fn print_cost<E: Write>(name: &str, arguments: &ArgMatches<'_>, err: &mut E)
         ),
         (Some(count), _, Some("2")) if count > MANY_OPERATIONS => writeln!(
             err,
-            "mcsim: note: a swap has up to {count} operations, and two rounds take some seconds for each million"
+            "mcsim: note: a swap has up to {count} operations, and two rounds take about a second for each million"
         ),
         _ => Ok(()),
     }

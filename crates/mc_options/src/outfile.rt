@@ -10,7 +10,7 @@ use std::{fs, io};
 const MOST_NAMES: u32 = 100;
 
 /// What stands in the name of such a file between the target's name and the number of the process that writes it.
-const MARK: &str = ".new";
+const MARK: &str = ".mcsim-new";
 
 /// A file that is written.
 #[derive(Drop)]

@@ -160,11 +160,11 @@ pub fn report_file<F: Files, E: Write>(
     match refusal {
         Refusal::Open
         | Refusal::Write
-        | Refusal::Life(LifeError::Refused(EventError::NoFile, _, _)) => report_unopened(
-            files, err,
-        ),
-        Refusal::Life(LifeError::Refused(_, _, number)) => match files.take_line() {
-            Some(line) => writeln!(err, "mcsim: line {number} is: {line}"),
+        | Refusal::Tool(ToolError::Write)
+        | Refusal::Trace(TraceError::Write)
+        | Refusal::Life(LifeError::Refused(EventError::NoFile, _, _)) => report_failed(files, err),
+        Refusal::Life(LifeError::Refused(..)) => match files.take_reason() {
+            Some(reason) => writeln!(err, "mcsim: {reason}"),
             None => Ok(()),
         },
         Refusal::Tool(ToolError::Read) => match files.take_opened() {
@@ -225,14 +225,14 @@ fn report_long<F: Files, E: Write>(
     writeln!(err, "mcsim: {path} has more than {limit} bytes")
 }
 
-/// Prints the last file that could not be opened or made, if there is one, and what the system says of it.
+/// Prints the last file that could not be opened, made or written, if there is one, and what the system says of it.
 ///
 /// # Errors
 ///
 /// Where the output fails.
-fn report_unopened<F: Files, E: Write>(files: WatchedFiles<'_, F>, err: &mut E) -> io::Result<()> {
-    match files.unopened() {
-        Some(unopened) => writeln!(err, "mcsim: {}: {}", unopened.path, unopened.error),
+fn report_failed<F: Files, E: Write>(files: WatchedFiles<'_, F>, err: &mut E) -> io::Result<()> {
+    match files.failed() {
+        Some(failed) => writeln!(err, "mcsim: {}: {}", failed.path, failed.error),
         None => Ok(()),
     }
 }

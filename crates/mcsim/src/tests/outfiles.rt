@@ -144,7 +144,7 @@ fn keeps_until_whole<H: Abort + Files + Alloc>(rt: &H, alloc: Global, path: &str
     fs::write(rt, path, PAYLOAD.as_slice()).expect(rt, "a file");
     prints(rt, alloc, line.as_str(), "");
     holds(rt, path, &PLAIN_IMAGE);
-    stands(rt, alloc, path, ".new", false)
+    stands(rt, alloc, path, ".mcsim-new", false)
 }
 
 /// Looks whether a file whose name ends so is in the folder of this one, whose name it begins with.
@@ -156,7 +156,12 @@ fn stands<H: Abort + Files>(rt: &H, alloc: Global, path: &str, end: &str, wanted
 
 /// The next run takes away what one has left that is over, and nothing else: no process has a number above 4194304, and 1 is never over.
 fn takes_away_what_is_left<H: Abort + Files + Alloc>(rt: &H, alloc: Global, path: &str) {
-    let ends = [".new4194305", ".new1", ".newer", ".new4194305.bin"];
+    let ends = [
+        ".mcsim-new4194305",
+        ".mcsim-new1",
+        ".new4194305",
+        ".mcsim-new4194305.bin",
+    ];
     for end in ends {
         let beside = format!(in alloc; "{path}{end}").expect(rt, "memory");
         fs::write(rt, beside.as_str(), "").expect(rt, "a file");
@@ -164,7 +169,7 @@ fn takes_away_what_is_left<H: Abort + Files + Alloc>(rt: &H, alloc: Global, path
     let line = format!(in alloc; "create --keep --version 1.2.3+4 -H 32 --pad-header - {path}");
     prints(rt, alloc, line.expect(rt, "memory").as_str(), "");
     for end in ends {
-        stands(rt, alloc, path, end, end != ".new4194305");
+        stands(rt, alloc, path, end, end != ".mcsim-new4194305");
         let beside = format!(in alloc; "{path}{end}").expect(rt, "memory");
         let _ = fs::remove_file(rt, beside.as_str());
     }

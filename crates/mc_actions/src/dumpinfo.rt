@@ -1,0 +1,52 @@
+//! `dumpinfo`: what is in an image?
+use crate::infile::open_infile;
+use clap::ArgMatches;
+use mc_image::{ImageView, Tlvs};
+use mc_imgtool::read_bounded;
+use mc_options::{GREATEST_IMAGE, Refusal, entry_name};
+use std::alloc::Global;
+use std::io;
+use std::io::{Read, Write};
+use std::rt::Files;
+
+/// Prints the report of the image of INFILE, or of standard input where INFILE is left out. With `--verbose` the usual names of its entries
+/// follow on `err`.
+///
+/// # Errors
+///
+/// `Open` where INFILE cannot be opened, and what the image tool refuses.
+pub fn run<F: Files, R: Read, O: Write, E: Write>(
+    files: &F,
+    alloc: Global,
+    arguments: &ArgMatches<'_>,
+    input: &mut R,
+    out: &mut O,
+    err: &mut E,
+) -> Result<(), Refusal> {
+    let bytes = match open_infile(files, arguments)? {
+        Some(mut file) => read_bounded(alloc, &mut file, GREATEST_IMAGE)?,
+        None => read_bounded(alloc, input, GREATEST_IMAGE)?,
+    };
+    mc_imgtool::dumpinfo(alloc, &mut bytes.as_slice(), out)?;
+    if arguments.get_flag("verbose")
+        && let Ok(image) = ImageView::read(bytes.as_slice())
+    {
+        // Names that cannot be written change nothing.
+        let _ = print_names(image.tlvs(), err);
+    }
+    Ok(())
+}
+
+/// Prints the usual name of each entry that has one.
+///
+/// # Errors
+///
+/// Where the output fails.
+fn print_names<E: Write>(entries: Tlvs<'_>, err: &mut E) -> io::Result<()> {
+    for entry in entries {
+        if let Some(name) = entry_name(entry.kind) {
+            writeln!(err, "mcsim: entry {:#06x} is {name}", entry.kind)?;
+        }
+    }
+    Ok(())
+}

@@ -1,0 +1,217 @@
+//! `life`: what happens to a device, replayed event by event.
+use crate::replay::write_file;
+use clap::ArgMatches;
+use mc_cli::WatchedFiles;
+use mc_explore::{Kind, Start};
+use mc_flash::{Layout, Slot, SnapFlash};
+use mc_imgtool::ToolError;
+use mc_life::{Device, File, LifeError, Script, find, replay_life, write_wear};
+use mc_options::{
+    GREATEST_FLASH, GREATEST_IMAGE, Refusal, check_outputs, is_same_file, layout_options,
+    read_file, rules_options,
+};
+use std::alloc::Global;
+use std::fs;
+use std::io::{Read, Write};
+use std::rt::Files;
+
+/// The start of a device that is delivered with an image in the primary, all else blank.
+///
+/// # Errors
+///
+/// `Start` where the image is refused, or does not fit, or an allocation failed.
+fn delivered(alloc: Global, layout: &Layout, image: &[u8]) -> Result<Start, Refusal> {
+    let images = Start::from_images(alloc, layout, Kind::None, image, image)?;
+    let primary = images.primary();
+    let size = primary.len() + layout.size(Slot::Secondary) as usize;
+    let mut bytes = Vec::with_capacity(alloc, size).map_err(|_| Refusal::Memory)?;
+    bytes
+        .extend_from_slice(primary)
+        .map_err(|_| Refusal::Memory)?;
+    bytes.resize(size, 0xff).map_err(|_| Refusal::Memory)?;
+    Ok(Start::from_flash(alloc, layout, &bytes)?)
+}
+
+/// The start that the options give. They are checked before a file is touched.
+///
+/// # Errors
+///
+/// `Layout` and `Argument` of the words; `SameFile`; `Device` where not one of `--flash` and `--image` is given; what is refused of
+/// the file.
+fn read_device<F: Files>(
+    files: &F,
+    alloc: Global,
+    arguments: &ArgMatches<'_>,
+) -> Result<Start, Refusal> {
+    let layout = layout_options(arguments)?;
+    let rules = rules_options(arguments)?;
+    check_outputs(files, arguments)?;
+    let start = match (arguments.get_str("flash"), arguments.get_str("image")) {
+        (Some(path), None) => {
+            let bytes = read_file(files, alloc, path, GREATEST_FLASH)?;
+            Start::from_flash(alloc, &layout, &bytes)?
+        }
+        (None, Some(path)) => {
+            let bytes = read_file(files, alloc, path, GREATEST_IMAGE)?;
+            delivered(alloc, &layout, &bytes)?
+        }
+        _ => return Err(Refusal::Device),
+    };
+    Ok(start.with_rules(rules))
+}
+
+/// Adds a file by its name, if it is not there yet and can be opened.
+///
+/// # Errors
+///
+/// `Tool` where a read failed, or the file is too long; `Memory`.
+fn add_file<F: Files>(
+    files: &F,
+    alloc: Global,
+    name: &str,
+    shelf: &mut Vec<File>,
+) -> Result<(), Refusal> {
+    if find(shelf, name).is_some() {
+        return Ok(());
+    }
+    let bytes = match read_file(files, alloc, name, GREATEST_IMAGE) {
+        Ok(bytes) => bytes,
+        // The event that names it is refused.
+        Err(Refusal::Open) => return Ok(()),
+        Err(refusal) => return Err(refusal),
+    };
+    if bytes.len() > GREATEST_IMAGE as usize {
+        return Err(Refusal::Tool(ToolError::InputTooLong));
+    }
+    let file = File::new(alloc, name, bytes).map_err(|_| Refusal::Memory)?;
+    shelf.push(file).map_err(|_| Refusal::Memory)
+}
+
+/// The files that a script names, each once. None of them is the file that is to be written.
+///
+/// # Errors
+///
+/// `SameFile`; those of `add_file`.
+fn read_shelf<F: Files>(
+    files: &F,
+    alloc: Global,
+    script: &Script,
+    outfile: Option<&str>,
+) -> Result<Vec<File>, Refusal> {
+    let names = script.names(alloc).map_err(|_| Refusal::Memory)?;
+    let mut shelf = Vec::new(alloc);
+    for name in &names {
+        if let Some(outfile) = outfile
+            && is_same_file(files, name, outfile)
+        {
+            return Err(Refusal::SameFile);
+        }
+        add_file(files, alloc, name, &mut shelf)?;
+    }
+    Ok(shelf)
+}
+
+/// The script, from its file or from standard input.
+///
+/// # Errors
+///
+/// `Open` where the file cannot be opened; `Script` with what is refused of what is read.
+fn read_script<F: Files, R: Read>(
+    files: &F,
+    alloc: Global,
+    arguments: &ArgMatches<'_>,
+    input: &mut R,
+) -> Result<Script, Refusal> {
+    let path = arguments.get_str("SCRIPT").unwrap_or("-");
+    if path == "-" {
+        return Ok(Script::read(alloc, input)?);
+    }
+    let mut file = fs::open(files, path).map_err(|_| Refusal::Open)?;
+    Ok(Script::read(alloc, &mut file)?)
+}
+
+/// A device, what happens to it, and the files that the script names.
+#[derive(Drop)]
+struct Life {
+    start: Start,
+    script: Script,
+    shelf: Vec<File>,
+}
+
+/// The life that the options give. They are checked before a file is touched.
+///
+/// # Errors
+///
+/// Those of `read_device`, `read_script` and `read_shelf`, in this order.
+fn read<F: Files, R: Read>(
+    files: &F,
+    alloc: Global,
+    arguments: &ArgMatches<'_>,
+    input: &mut R,
+) -> Result<Life, Refusal> {
+    let start = read_device(files, alloc, arguments)?;
+    let script = read_script(files, alloc, arguments, input)?;
+    let shelf = read_shelf(files, alloc, &script, arguments.get_str("out"))?;
+    Ok(Life {
+        start,
+        script,
+        shelf,
+    })
+}
+
+/// Prints a line for each event, and what was erased where that is asked; and gives the device as it is at the end. The line of an event
+/// that can't happen is remembered.
+///
+/// # Errors
+///
+/// `Life` with the first event that can't happen: all before it is printed; `Write`.
+fn print<F: Files, O: Write>(
+    files: &WatchedFiles<'_, F>,
+    life: &Life,
+    alloc: Global,
+    with_wear: bool,
+    out: &mut O,
+) -> Result<Device<SnapFlash>, Refusal> {
+    let device = match replay_life(alloc, &life.start, &life.script, &life.shelf, out) {
+        Ok(device) => device,
+        Err(error) => {
+            if let LifeError::Refused(_, _, number) = error
+                && let Some(line) = line_at(&life.script, number)
+                && let Ok(reason) = format!(in alloc; "line {number} is: {line}")
+            {
+                files.keep_reason(reason);
+            }
+            return Err(Refusal::Life(error));
+        }
+    };
+    if with_wear {
+        write_wear(device.wear(), out).map_err(|_| Refusal::Write)?;
+    }
+    Ok(device)
+}
+
+/// The line of a script of that number, counted from 1.
+fn line_at(script: &Script, number: u32) -> Option<&str> {
+    script.text().lines().nth(number.checked_sub(1)? as usize)
+}
+
+/// Replays what happens to a device by a script, a line for each event. With `--wear` it ends with two lines of what was erased,
+/// and where `--out` names a file, the flash at the end is written to it.
+///
+/// # Errors
+///
+/// What refuses the words or their files; `Script`; those of `print`; `Open` and `Write` of the file.
+pub fn run<F: Files, R: Read, O: Write>(
+    files: &WatchedFiles<'_, F>,
+    alloc: Global,
+    arguments: &ArgMatches<'_>,
+    input: &mut R,
+    out: &mut O,
+) -> Result<(), Refusal> {
+    let life = read(files, alloc, arguments, input)?;
+    let device = print(files, &life, alloc, arguments.get_flag("wear"), out)?;
+    match arguments.get_str("out") {
+        Some(path) => write_file(files, alloc, path, device.flash()),
+        None => Ok(()),
+    }
+}

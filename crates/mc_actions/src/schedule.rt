@@ -1,0 +1,60 @@
+//! A schedule of power cuts and the start that it begins at, as options give them.
+ghost use Rattle.std.specs.Prelude.{◌≡◌, Some, IfOk, codes};
+ghost use Rattle.clap.specs.Matches.{found_of};
+ghost use Rattle.mc_start.specs.Start.{schedule_text};
+ghost use Rattle.mc_options.specs.Arguments.{MayGiveSchedule};
+ghost use Rattle.mc_options.specs.Sources.{GivesStart};
+
+use clap::ArgMatches;
+use mc_explore::{Schedule, Start};
+use mc_options::{Refusal, check_outputs, flash_options, read_start, required};
+use std::alloc::Global;
+use std::rt::Files;
+
+/// A start, and a schedule of power cuts from it.
+#[derive(Drop)]
+pub struct Scheduled {
+    pub start: Start,
+    pub schedule: Schedule,
+}
+
+/// The start of a source, and the schedule that the options give. The words are checked before a file is touched.
+///
+/// # Errors
+///
+/// `Argument` where no schedule is given; what `schedule_from` refuses.
+pub fn read_schedule<F: Files>(
+    files: &F,
+    alloc: Global,
+    arguments: &ArgMatches<'_>,
+) -> Result<Scheduled, Refusal>
+    ensures start { IfOk result (λ t. GivesStart (found_of arguments.now) t.start) }
+    ensures schedule { IfOk result (λ t. MayGiveSchedule (found_of arguments.now)
+        (codes "schedule") (Some t.schedule)) }
+{
+    schedule_from(files, alloc, arguments, required(arguments, "schedule")?)
+}
+
+/// The start of a source, and the schedule of a text. The words are checked before a file is touched.
+///
+/// # Errors
+///
+/// `Source`, `Layout` and `Schedule` of the words, in this order; `SameFile` of the files to be written; what `read_start` refuses.
+pub fn schedule_from<F: Files>(
+    files: &F,
+    alloc: Global,
+    arguments: &ArgMatches<'_>,
+    schedule: &str,
+) -> Result<Scheduled, Refusal>
+    ensures start { IfOk result (λ t. GivesStart (found_of arguments.now) t.start) }
+    ensures schedule { IfOk result (λ t. schedule.now ≡ schedule_text t.schedule) }
+{
+    let options = match flash_options(arguments) {
+        Ok(options) => options,
+        Err(refusal) => return Err(refusal),
+    };
+    let schedule = Schedule::read(schedule)?;
+    check_outputs(files, arguments)?;
+    let start = read_start(files, alloc, &options)?;
+    Ok(Scheduled { start, schedule })
+}

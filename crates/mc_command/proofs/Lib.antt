@@ -1,2 +1,0 @@
-mod Blocks
-mod Judging

@@ -1,9 +1,0 @@
-use Rattle.mc_command.proofs.commands.explore.tally.Goals as goal
-
-pub returns : goal.returns
-returns g c = record {
-  explorer = c.in_ok-explorer.explorer;
-  begins = c.in_ok-explorer.ensures;
-  new = _;
-  counts = c.in_ok-survey_rows.ensures.surveys;
-}

@@ -1,0 +1,115 @@
+-- The starts and the explorations that the options of a command give.
+use Rattle.std.specs.Prelude.{◌≡◌, ℕ, Bool, List, Option, Some, None, Result, Ok, Err, false, not, option_map, true, unwrap_or}
+use Rattle.clap.specs.declared.parser.matches.Found.{Found}
+use Rattle.mc_boot.specs.{Plan.{PowerOn}, declared.kind.Kind.{Kind}}
+use Rattle.mc_boot.specs.declared.kind.Kind.TheVariants as starts
+use Rattle.mc_explore.specs.{Census.{IsCensus}, Pages.{ShownIsOut}, Right.{AreRights, SurveysRows}}
+use Rattle.mc_explore.specs.{Subject.{Explored, GoesOnBeyond, Resumes, State, Subject, at_start, rows_of}, declared.error.ExploreError.{ExploreError}}
+use Rattle.mc_explore.specs.declared.error.ExploreError.TheVariants as errors
+use Rattle.mc_explore.specs.declared.expectation.Expectation.{Expectation}
+use Rattle.mc_explore.specs.declared.expectation.Wanted.TheVariants as wanted
+use Rattle.mc_explore.specs.{declared.rights.RightsOf.{RightsOf}, declared.subject.Fields.{Fields}, declared.tally.TallyOf.{TallyOf}}
+use Rattle.mc_image.specs.Valid.{Identity}
+use Rattle.mc_start.specs.Start.{Started, begun}
+use Rattle.mc_options.specs.{Arguments.{GivesExtent, GivesFlash, GivesRange}, Numbers.{GivesNumber}, Sources.{IsStartOf}}
+use Rattle.mc_verdict.specs.{Verdicts.{IsExpectation, GivesAsked}, declared.census.Counts.{Counts}, declared.census.Wanted.{Wanted}}
+use Rattle.mc_verdict.specs.declared.explore.Exploration.{Exploration}
+use Rattle.mc_options.specs.declared.numbers.NumberOption.TheVariants as numbers
+use Rattle.mc_options.specs.{declared.options.FlashOptions.{FlashOptions}, declared.options.Source.{Source}}
+use Rattle.mc_options.specs.declared.options.Source.TheVariants as sources
+use Rattle.mc_options.specs.declared.refusal.Refusal.{Refusal}
+use Rattle.mc_options.specs.declared.refusal.Refusal.TheVariants as refusals
+use Rattle.mc_verdict.specs.declared.verdict.Asked.{Asked}
+
+-- Whether the images of a source lie at the end where they would without the swap, by the kind of its start and what is chosen.
+abbrev pub back_from : {C : Type 0} → (Kind → C → Bool) → Source → C → Bool
+back_from is_back (sources.Flash path) choice = false
+back_from is_back (sources.Images kind a b) choice = is_back kind choice
+
+-- So it is after two rounds of a test that does not confirm itself.
+abbrev pub is_left_alone : Kind → Bool → Bool
+is_left_alone starts.None confirms = false
+is_left_alone starts.Test confirms = not confirms
+is_left_alone starts.Perm confirms = false
+is_left_alone starts.Revert confirms = false
+
+-- The image that is to lie in the primary at the end, and the one in the secondary.
+abbrev pub ends_of : Bool → Option (Identity × Identity) → Option (Identity × Identity)
+ends_of back None = None
+ends_of true (Some (one, other)) = Some (other, one)
+ends_of false (Some (one, other)) = Some (one, other)
+
+-- The arguments give an exploration: its start, what is chosen, how far it goes, and which rows it gives.
+pub record GivesExploration {C K R U : Type 0} (x : Subject C K R U) (IsChoice : Found → C → Type 0) (is_back : Kind → C → Bool) (found : Found) (e : Exploration C U K) : Type 0 where
+  pub options : FlashOptions
+  pub options_given : GivesFlash found options
+  pub start : IsStartOf options e.start
+  pub choice : IsChoice found e.choice
+  pub back : e.back ≡ back_from is_back options.source e.choice
+  pub extent : GivesExtent found e.extent
+  pub range : GivesRange x.cursor_text x.key_text found e.range
+
+module _ {C K R U : Type 0} (x : Subject C K R U) (fields : U → Fields C K) where
+  -- An explorer after the key, after that of the cursor, or at the start; or why there is none.
+  abbrev pub Begins : PowerOn → C → ℕ → Option K → Option U → Result (Explored C K) ExploreError → Type 0
+  Begins start choice bound (Some last) cursor made = GoesOnBeyond x start choice bound last made
+  Begins start choice bound None (Some cursor) made = Resumes x start choice bound (fields cursor) made
+  Begins start choice bound None None (Ok explorer) = explorer.state ≡ at_start start choice bound
+  Begins start choice bound None None (Err e) = e ≡ errors.Memory
+
+  -- The explorer of an exploration.
+  abbrev pub BeginsAs : Exploration C U K → Result (Explored C K) ExploreError → Type 0
+  BeginsAs e = Begins (begun e.start) e.choice e.extent.cuts e.range.after e.range.cursor
+
+  -- The explorer that the options give, or why the program has none.
+  abbrev pub Explores : Exploration C U K → Result (Explored C K) Refusal → Type 0
+  Explores e (Ok explorer) = BeginsAs e (Ok explorer)
+  Explores e (Err (refusals.Explore error)) = BeginsAs e (Err error)
+  Explores e (Err _) = ⊥
+
+  -- The tally of the rows that the options give, and how many of them are right.
+  pub record TalliesUntil (e : Exploration C U K) (expectation : Expectation) (tally : TallyOf U) (rights : RightsOf K) : Type 0 where
+    pub explorer : Explored C K
+    pub begins : BeginsAs e (Ok explorer)
+    pub new : State C K
+    pub counts : SurveysRows x expectation e.range.until explorer.state new e.extent.limit tally rights
+
+  -- And only where that is asked, for what the words expect of the slots.
+  pub record TalliesAsked (e : Exploration C U K) (a : Asked) (tally : TallyOf U) (shown : Option (RightsOf K)) : Type 0 where
+    pub expectation : Option Expectation
+    pub expects : IsExpectation a (ends_of e.back e.start.named) (Ok expectation)
+    pub rights : RightsOf K
+    pub tallies : TalliesUntil e (unwrap_or expectation (record { primary = wanted.Anything; secondary = wanted.Anything })) tally rights
+    pub shown_is : shown ≡ option_map (λ _. rights) expectation
+
+  -- The page of the rows that the options give is out.
+  pub record PrintsUntil (e : Exploration C U K) (before after : Option (List ℕ)) : Type 0 where
+    pub explorer : Explored C K
+    pub begins : BeginsAs e (Ok explorer)
+    pub new : State C K
+    pub out : ShownIsOut (rows_of x) e.range.until explorer.state new e.extent.limit before after
+
+-- The arguments give a census: its start, what is chosen, the most cuts, and what is asked of the rows.
+pub record GivesWanted {C : Type 0} (IsChoice : Found → C → Type 0) (is_back : Kind → C → Bool) (found : Found) (w : Wanted C) : Type 0 where
+  pub options : FlashOptions
+  pub options_given : GivesFlash found options
+  pub start : IsStartOf options w.start
+  pub choice : IsChoice found w.choice
+  pub back : w.back ≡ back_from is_back options.source w.choice
+  pub cuts : GivesNumber found numbers.Cuts w.cuts
+  pub asked : GivesAsked found w.asked
+
+module _ {C K R U : Type 0} (x : Subject C K R U) where
+  -- What of the rows of a start is right, where that is asked.
+  abbrev pub AreRightsIf : Option Expectation → PowerOn → C → ℕ → Option (RightsOf K) → Type 0
+  AreRightsIf None start choice bound None = Unit {0}
+  AreRightsIf (Some e) start choice bound (Some rights) = AreRights x e start choice bound rights
+  AreRightsIf None start choice bound (Some rights) = ⊥
+  AreRightsIf (Some e) start choice bound None = ⊥
+
+  -- Its census, and what of it is right as is asked.
+  pub record AreCounts (w : Wanted C) (c : Counts K) : Type 0 where
+    pub comes_to : IsCensus x (begun w.start) w.choice w.cuts c.census
+    pub expectation : Option Expectation
+    pub expects : IsExpectation w.asked (ends_of w.back w.start.named) (Ok expectation)
+    pub rights : AreRightsIf expectation (begun w.start) w.choice w.cuts c.rights

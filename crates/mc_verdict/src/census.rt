@@ -1,0 +1,199 @@
+//! `census`: what all schedules of power cuts, or all campaigns of two rounds, come to, without listing them.
+ghost use Rattle.std.specs.Prelude.{◌≡◌, ◌≤◌, List, IfOk, false, true};
+ghost use Rattle.mc_explore.specs.Census.{census_by};
+ghost use Rattle.mc_explore.specs.declared.expectation.Expectation.{Expectation as Expected};
+ghost use Rattle.clap.specs.Matches.{found_of};
+ghost use Rattle.mc_verdict.specs.Sessions.{AreCounts, AreRightsIf, GivesWanted};
+ghost use Rattle.mc_verdict.specs.Verdicts.{AreCounted, IsVerdict, is_of_slots};
+ghost use Rattle.mc_start.specs.Start.{begun};
+
+use crate::explorable::Explorable;
+use crate::explore::{ends, is_taken_back};
+use crate::verdict::{Asked, right_if_asked, write_lines};
+use clap::ArgMatches;
+use mc_explore::{
+    CensusOf, Countable, Expectation, OfStart, RightsOf, Start, each_boots, take_census,
+    take_rights, write_census,
+};
+use mc_flash::JournalFlash;
+use mc_options::{Refusal, census_options, flash_options, read_start};
+use std::alloc::Global;
+use std::io::Write;
+use std::rt::Files;
+
+/// A census that the words ask for.
+#[derive(Drop)]
+pub struct Wanted<C: Copy> {
+    start: Start,
+    /// What is chosen besides the start.
+    choice: C,
+    /// Whether both images are to lie at the end where they would without the swap.
+    back: bool,
+    cuts: u8,
+    asked: Asked,
+}
+
+/// What its rows come to.
+#[derive(Clone, Copy)]
+pub struct Counts<K> {
+    census: CensusOf<K>,
+    // What of it is right, where that was asked.
+    rights: Option<RightsOf<K>>,
+}
+
+/// How many rows from a start are right, where that is asked.
+///
+/// # Errors
+///
+/// `Explore` where memory failed.
+fn rights_if<'a, X: OfStart<'a> + Countable>(
+    alloc: Global,
+    start: &'a Start,
+    cuts: u8,
+    chosen: X::Choice,
+    expectation: &Option<Expectation>,
+) -> Result<Option<RightsOf<X::Key>>, Refusal>
+    requires { cuts ≤ 16 }
+    ensures { IfOk result (AreRightsIf X.subject expectation.now (begun start.now) chosen cuts) }
+{
+    match expectation {
+        Some(e) => Ok(Some(take_rights::<JournalFlash, X>(alloc, start, cuts, chosen, e)?)),
+        None => Ok(None),
+    }
+}
+
+/// The census that the words ask for. They are checked before a file is touched.
+///
+/// # Errors
+///
+/// `Source`, `Layout`, the numbers and `Version` of the words; `NeverSwaps`; what `read_start` refuses.
+pub fn read<X: Explorable, F: Files>(
+    files: &F,
+    alloc: Global,
+    arguments: &ArgMatches<'_>,
+) -> Result<Wanted<X::Choice>, Refusal>
+    ensures given { IfOk result (GivesWanted X.IsChoice X.is_taken_back (found_of arguments.now)) }
+    ensures range { IfOk result (λ wanted. wanted.cuts ≤ 16) }
+{
+    let options = match flash_options(arguments) {
+        Ok(options) => options,
+        Err(refusal) => return Err(refusal),
+    };
+    let cuts = census_options(arguments)?;
+    let asked = Asked::read(arguments)?;
+    asked.check(&options.layout)?;
+    let choice = X::chosen(arguments);
+    Ok(Wanted {
+        choice,
+        back: is_taken_back::<X>(&options.source, choice),
+        cuts,
+        asked,
+        start: read_start(files, alloc, &options)?,
+    })
+}
+
+impl Wanted<()> {
+    /// That of all schedules of at most so many cuts from a dump.
+    pub fn of_dump(start: Start, cuts: u8, asked: Asked) -> Wanted<()>
+        ensures { result ≡ record {
+          start = start;
+          choice = tt;
+          back = false;
+          cuts = cuts;
+          asked = asked;
+        } }
+    {
+        Wanted {
+            start,
+            choice: (),
+            back: false,
+            cuts,
+            asked,
+        }
+    }
+
+    /// The start.
+    pub fn start(&self) -> &Start
+        ensures { result.now ≡ self.now.start }
+    {
+        &self.start
+    }
+
+    /// What is asked of each schedule.
+    pub fn asked(&self) -> &Asked
+        ensures { result.now ≡ self.now.asked }
+    {
+        &self.asked
+    }
+}
+
+/// What its rows come to.
+///
+/// # Errors
+///
+/// `Expectation`; `Explore` where memory failed.
+pub fn count<'a, X: OfStart<'a> + Countable>(
+    alloc: Global,
+    wanted: &'a Wanted<X::Choice>,
+) -> Result<Counts<X::Key>, Refusal>
+    requires { wanted.now.cuts ≤ 16 }
+    ensures { IfOk result (AreCounts X.subject wanted.now) }
+{
+    let (start, cuts, choice) = (&wanted.start, wanted.cuts, wanted.choice);
+    let expectation = wanted.asked.expectation(ends(wanted.back, start.named()))?;
+    Ok(Counts {
+        rights: rights_if::<X>(alloc, start, cuts, choice, &expectation)?,
+        census: take_census::<JournalFlash, X>(alloc, start, cuts, choice)?,
+    })
+}
+
+/// Prints how many schedules, or campaigns, of at most so many cuts can occur, how many of them with each result, the largest number
+/// of operations of a last boot, and the first that does not end in a boot. Where something is expected of the slots, also how many
+/// are right, and the first that is not.
+///
+/// # Errors
+///
+/// Those of `count`; `Write` where the output cannot be written. With `--all-boot` also `NotAllBoot` where one does not end
+/// in a boot, and with `--all-right` `NotAllRight` where one is not right; the output is written then.
+pub fn run<'a, X: Explorable + OfStart<'a> + Countable, O: Write>(
+    wanted: &'a Wanted<X::Choice>,
+    alloc: Global,
+    out: &mut O,
+) -> Result<(), Refusal>
+    requires { wanted.now.cuts ≤ 16 }
+{
+    let counts = count::<X>(alloc, wanted)?;
+    conclude::<X, O>(&counts, &wanted.asked, out)
+}
+
+/// Prints what rows come to, and gives the verdict on them.
+///
+/// # Errors
+///
+/// `Write`; those of `judge`.
+pub fn conclude<X: Explorable, O: Write>(
+    counts: &Counts<X::Key>,
+    asked: &Asked,
+    out: &mut O,
+) -> Result<(), Refusal> {
+    write_census::<X, O>(&counts.census, out)?;
+    write_lines::<X, O>(&counts.rights, out)?;
+    judge::<X>(counts, asked)
+}
+
+/// The verdict on the rows that were counted.
+///
+/// # Errors
+///
+/// The first of `NotAllBoot` and `NotAllRight` that was asked for and does not hold.
+fn judge<X: Explorable>(counts: &Counts<X::Key>, asked: &Asked) -> Result<(), Refusal>
+    ensures { (e : Expected) (rows : List X.Shown) → counts.now.census
+        ≡ census_by X.subject.ends X.subject.key rows
+        → AreCounted X.subject e rows counts.now.rights
+        → IsVerdict X.subject.ends asked.now.all_boot (is_of_slots asked.now) e rows
+        counts.now.rights true result }
+{
+    let boots = each_boots::<X>(&counts.census);
+    let right = right_if_asked::<X>(&counts.rights);
+    asked.verdict(boots, right, true)
+}

@@ -1,0 +1,95 @@
+//! The kinds of trees that commands explore, and what the options say of each.
+use clap::ArgMatches;
+use mc_campaign::{Campaign, CampaignCursor, TwoRounds};
+use mc_explore::{Cursor, Kind, OneRound, Schedule, Subject};
+use mc_options::{RangeOptions, Refusal, range_options};
+
+/// A kind of tree that commands explore.
+pub trait Explorable: Subject {
+    ghost use Rattle.std.specs.Prelude.{◌≡◌, Bool, IfOk};
+    ghost use Rattle.clap.specs.Matches.{found_of};
+    ghost use Rattle.clap.specs.declared.parser.matches.Found.{Found};
+    ghost use Rattle.mc_boot.specs.declared.kind.Kind.{Kind as StartKind};
+    ghost use Rattle.mc_options.specs.Arguments.{GivesRange};
+
+    ghost IsChoice: { Found → Self.Choice → Type 0 };
+
+    ghost is_taken_back: { StartKind → Self.Choice → Bool };
+
+    /// The choice that the options give.
+    fn chosen(arguments: &ArgMatches<'_>) -> Self::Choice
+        ensures { IsChoice (found_of arguments.now) result };
+
+    /// Which of the rows the options ask for.
+    ///
+    /// # Errors
+    ///
+    /// Those of `range_options`.
+    fn range(arguments: &ArgMatches<'_>) -> Result<RangeOptions<Self::Cursor, Self::Key>, Refusal>
+        ensures { IfOk result (GivesRange Self.subject.cursor_text Self.subject.key_text
+            (found_of arguments.now)) };
+
+    /// Whether the images of a start of that kind lie at the end where they would without the swap.
+    fn takes_back(kind: Kind, choice: Self::Choice) -> bool
+        ensures { result ≡ is_taken_back kind choice };
+}
+
+impl Explorable for OneRound<'_> {
+    ghost use Rattle.std.specs.Prelude.{◌≡◌, IfOk, false};
+    ghost use Rattle.clap.specs.Matches.{found_of};
+    ghost use Rattle.mc_explore.specs.Rows.{subject};
+    ghost use Rattle.mc_options.specs.Arguments.{GivesRange};
+
+    ghost IsChoice = { λ _ _. Unit {0} };
+
+    ghost is_taken_back = { λ _ _. false };
+
+    fn chosen(_arguments: &ArgMatches<'_>)
+        ensures { Unit {0} }
+    {}
+
+    fn range(arguments: &ArgMatches<'_>) -> Result<RangeOptions<Cursor, Schedule>, Refusal>
+        ensures { IfOk result (GivesRange subject.cursor_text subject.key_text (found_of
+            arguments.now)) }
+    {
+        range_options(arguments)
+    }
+
+    fn takes_back(_kind: Kind, _choice: ()) -> bool
+        ensures { result ≡ false }
+    {
+        false
+    }
+}
+
+impl Explorable for TwoRounds<'_> {
+    ghost use Rattle.std.specs.Prelude.{◌≡◌, IfOk, codes};
+    ghost use Rattle.clap.specs.Matches.{found_of};
+    ghost use Rattle.mc_campaign.specs.Rows.{campaigns};
+    ghost use Rattle.mc_options.specs.Arguments.{GivesRange, IsFlag};
+    ghost use Rattle.mc_verdict.specs.Sessions.{is_left_alone};
+
+    ghost IsChoice = { λ found confirms. IsFlag found (codes "confirm") confirms };
+
+    ghost is_taken_back = { is_left_alone };
+
+    fn chosen(arguments: &ArgMatches<'_>) -> bool
+        ensures { IsFlag (found_of arguments.now) (codes "confirm") result }
+    {
+        arguments.get_flag("confirm")
+    }
+
+    fn range(arguments: &ArgMatches<'_>) -> Result<RangeOptions<CampaignCursor, Campaign>, Refusal>
+        ensures { IfOk result (GivesRange campaigns.cursor_text campaigns.key_text (found_of
+            arguments.now)) }
+    {
+        range_options(arguments)
+    }
+
+    // A test that does not confirm itself is taken back in the second round.
+    fn takes_back(kind: Kind, confirms: bool) -> bool
+        ensures { result ≡ is_left_alone kind confirms }
+    {
+        matches!(kind, Kind::Test) && !confirms
+    }
+}
