@@ -3,6 +3,7 @@ ghost use Rattle.mc_options.specs.Arguments.{IsReady};
 
 use crate::creation::Creation;
 use clap::ArgMatches;
+use mc_cli::WatchedFiles;
 use mc_options::{Outfile, Refusal, is_same_file};
 use std::alloc::Global;
 use std::fs;
@@ -20,7 +21,7 @@ const STANDARD: &str = "-";
 /// What `Creation::read` refuses; `SameFile` where OUTFILE is INFILE, by whatever path; `Open` where one of the files
 /// cannot be opened or made; what the image tool refuses.
 pub fn run<F: Files, R: Read, O: Write>(
-    files: &F,
+    files: &WatchedFiles<'_, F>,
     alloc: Global,
     arguments: &ArgMatches<'_>,
     input: &mut R,
@@ -46,7 +47,7 @@ pub fn run<F: Files, R: Read, O: Write>(
 ///
 /// `Open` where OUTFILE cannot be made; what the image tool refuses.
 fn make_from<F: Files, R: Read, O: Write>(
-    files: &F,
+    files: &WatchedFiles<'_, F>,
     alloc: Global,
     creation: &Creation<'_>,
     input: &mut R,

@@ -2,7 +2,7 @@
 use crate::infile::open_infile;
 use clap::ArgMatches;
 use mc_image::{ImageView, Tlvs};
-use mc_imgtool::read_bounded;
+use mc_imgtool::{dumpinfo, read_bounded};
 use mc_options::{GREATEST_IMAGE, Refusal, entry_name};
 use std::alloc::Global;
 use std::io;
@@ -23,14 +23,29 @@ pub fn run<F: Files, R: Read, O: Write, E: Write>(
     out: &mut O,
     err: &mut E,
 ) -> Result<(), Refusal> {
-    let bytes = match open_infile(files, arguments)? {
-        Some(mut file) => read_bounded(alloc, &mut file, GREATEST_IMAGE)?,
-        None => read_bounded(alloc, input, GREATEST_IMAGE)?,
-    };
-    mc_imgtool::dumpinfo(alloc, &mut bytes.as_slice(), out)?;
-    if arguments.get_flag("verbose")
-        && let Ok(image) = ImageView::read(bytes.as_slice())
-    {
+    let verbose = arguments.get_flag("verbose");
+    match open_infile(files, arguments)? {
+        Some(mut file) if verbose => report_named(alloc, &mut file, out, err),
+        Some(mut file) => Ok(dumpinfo(alloc, &mut file, out)?),
+        None if verbose => report_named(alloc, input, out, err),
+        None => Ok(dumpinfo(alloc, input, out)?),
+    }
+}
+
+/// Prints the report of an image, and the usual names of its entries.
+///
+/// # Errors
+///
+/// What the image tool refuses.
+fn report_named<R: Read, O: Write, E: Write>(
+    alloc: Global,
+    input: &mut R,
+    out: &mut O,
+    err: &mut E,
+) -> Result<(), Refusal> {
+    let bytes = read_bounded(alloc, input, GREATEST_IMAGE)?;
+    dumpinfo(alloc, &mut bytes.as_slice(), out)?;
+    if let Ok(image) = ImageView::read(bytes.as_slice()) {
         // Names that cannot be written change nothing.
         let _ = print_names(image.tlvs(), err);
     }

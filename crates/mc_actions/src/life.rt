@@ -1,19 +1,23 @@
 //! `life`: what happens to a device, replayed event by event.
+ghost use Rattle.std.specs.Prelude.{◌≤◌, length};
+
 use crate::replay::write_file;
 use clap::ArgMatches;
 use mc_cli::WatchedFiles;
 use mc_explore::{Kind, Start};
 use mc_flash::{Layout, Slot, SnapFlash};
 use mc_imgtool::ToolError;
-use mc_life::{Device, File, LifeError, Script, find, replay_life, write_wear};
+use mc_life::{
+    Device, Event, EventError, File, LifeError, Script, find, replay_life, said, write_wear,
+};
 use mc_options::{
     GREATEST_FLASH, GREATEST_IMAGE, Refusal, check_outputs, is_same_file, layout_options,
     read_file, rules_options,
 };
 use std::alloc::Global;
-use std::fs;
 use std::io::{Read, Write};
 use std::rt::Files;
+use std::{fs, io};
 
 /// The start of a device that is delivered with an image in the primary, all else blank.
 ///
@@ -159,40 +163,91 @@ fn read<F: Files, R: Read>(
     })
 }
 
-/// Prints a line for each event, and what was erased where that is asked; and gives the device as it is at the end. The line of an event
-/// that can't happen is remembered.
-///
-/// # Errors
-///
-/// `Life` with the first event that can't happen: all before it is printed; `Write`.
-fn print<F: Files, O: Write>(
-    files: &WatchedFiles<'_, F>,
-    life: &Life,
-    alloc: Global,
-    with_wear: bool,
-    out: &mut O,
-) -> Result<Device<SnapFlash>, Refusal> {
-    let device = match replay_life(alloc, &life.start, &life.script, &life.shelf, out) {
-        Ok(device) => device,
-        Err(error) => {
-            if let LifeError::Refused(_, _, number) = error
-                && let Some(line) = line_at(&life.script, number)
-                && let Ok(reason) = format!(in alloc; "line {number} is: {line}")
-            {
-                files.keep_reason(reason);
-            }
-            return Err(Refusal::Life(error));
-        }
-    };
-    if with_wear {
-        write_wear(device.wear(), out).map_err(|_| Refusal::Write)?;
-    }
-    Ok(device)
-}
-
 /// The line of a script of that number, counted from 1.
 fn line_at(script: &Script, number: u32) -> Option<&str> {
     script.text().lines().nth(number.checked_sub(1)? as usize)
+}
+
+/// The lines of a text before the one of that number, counted from 1.
+fn lines_before(text: &str, number: u32) -> Option<&str> {
+    match number.checked_sub(2) {
+        None => Some(""),
+        Some(earlier) => {
+            let (end, _) = text.match_indices('\n').nth(earlier as usize)?;
+            text.get(..end)
+        }
+    }
+}
+
+/// A cut, and how many operations the boot has in which it is to fall, after the cuts before it.
+fn cut_at(device: &mut Device<SnapFlash>, cuts: &[u32], index: usize) -> Option<(u32, u32)>
+    requires { length cuts.now ≤ 16 }
+{
+    let cut = *cuts.get(index)?;
+    let outcome = device.boot(&cuts[..index], &[]).ok()?;
+    Some((cut, outcome.ops))
+}
+
+/// The same of an event, if it has that cut.
+fn cut_of(device: &mut Device<SnapFlash>, event: &Event<'_>, index: usize) -> Option<(u32, u32)> {
+    match event {
+        Event::Boot(schedule) => cut_at(device, schedule.cuts(), index),
+        Event::Cut(count) => cut_at(device, &[*count], index),
+        _ => None,
+    }
+}
+
+/// A cut of the event in a line that can't occur, and how many operations its boot has: what comes before is replayed once more.
+fn operations_at(life: &Life, alloc: Global, number: u32, index: usize) -> Option<(u32, u32)> {
+    let text = lines_before(life.script.text(), number)?;
+    let before = Script::read(alloc, &mut text.as_bytes()).ok()?;
+    let mut device: Device<SnapFlash> = replay_life(
+        alloc,
+        &life.start,
+        &before,
+        &life.shelf,
+        &mut io::sink(),
+    ).ok()?;
+    match Event::read(said(line_at(&life.script, number)?)) {
+        Some(event) => cut_of(&mut device, &event, index),
+        None => None,
+    }
+}
+
+/// Why an event can't happen: its line, and of a cut how many operations its boot has.
+fn reason_of(life: &Life, alloc: Global, error: EventError, number: u32) -> Option<String> {
+    let line = line_at(&life.script, number)?;
+    if let EventError::CannotOccur(index) = error
+        && let Some((cut, operations)) = operations_at(life, alloc, number, index)
+    {
+        return format!(in alloc;
+            "line {number} is: {line}\nmcsim: cut {index} is {cut}, and its boot has {operations} operations"
+        ).ok();
+    }
+    format!(in alloc; "line {number} is: {line}").ok()
+}
+
+/// Replays a life, a line for each event, and gives the device as it is at the end. With `--verbose` it is remembered why an event can't
+/// happen.
+///
+/// # Errors
+///
+/// `Life` with the first event that can't happen: all before it is printed.
+fn replay<F: Files, O: Write>(
+    files: &WatchedFiles<'_, F>,
+    life: &Life,
+    alloc: Global,
+    arguments: &ArgMatches<'_>,
+    out: &mut O,
+) -> Result<Device<SnapFlash>, Refusal> {
+    let replayed = replay_life(alloc, &life.start, &life.script, &life.shelf, out);
+    if arguments.get_flag("verbose")
+        && let Err(LifeError::Refused(error, _, number)) = &replayed
+        && let Some(reason) = reason_of(life, alloc, *error, *number)
+    {
+        files.keep_reason(reason);
+    }
+    Ok(replayed?)
 }
 
 /// Replays what happens to a device by a script, a line for each event. With `--wear` it ends with two lines of what was erased,
@@ -200,7 +255,7 @@ fn line_at(script: &Script, number: u32) -> Option<&str> {
 ///
 /// # Errors
 ///
-/// What refuses the words or their files; `Script`; those of `print`; `Open` and `Write` of the file.
+/// What refuses the words or their files; `Script`; `Life` with the first event that can't happen; `Open` and `Write` of the file.
 pub fn run<F: Files, R: Read, O: Write>(
     files: &WatchedFiles<'_, F>,
     alloc: Global,
@@ -209,7 +264,10 @@ pub fn run<F: Files, R: Read, O: Write>(
     out: &mut O,
 ) -> Result<(), Refusal> {
     let life = read(files, alloc, arguments, input)?;
-    let device = print(files, &life, alloc, arguments.get_flag("wear"), out)?;
+    let device = replay(files, &life, alloc, arguments, out)?;
+    if arguments.get_flag("wear") {
+        write_wear(device.wear(), out).map_err(|_| Refusal::Write)?;
+    }
     match arguments.get_str("out") {
         Some(path) => write_file(files, alloc, path, device.flash()),
         None => Ok(()),

@@ -1,6 +1,7 @@
 //! `boot` and `replay`: what the boot after a schedule of power cuts does.
 use crate::schedule::{Scheduled, read_schedule, schedule_from};
 use clap::ArgMatches;
+use mc_cli::WatchedFiles;
 use mc_explore::{flash_at_cut, replay};
 use mc_flash::{Flash, JournalFlash};
 use mc_options::{Outfile, Refusal};
@@ -17,7 +18,7 @@ use std::rt::Files;
 /// `Source` and `Layout` of the words; what `read_start` refuses; `Replay` for want of memory; `Open` and `Write` of the file and
 /// the output.
 pub fn boot<F: Files, O: Write>(
-    files: &F,
+    files: &WatchedFiles<'_, F>,
     alloc: Global,
     arguments: &ArgMatches<'_>,
     out: &mut O,
@@ -34,7 +35,7 @@ pub fn boot<F: Files, O: Write>(
 ///
 /// Those of `boot`; `Schedule` of the words, and `Replay` where a cut can't occur.
 pub fn run<F: Files, O: Write>(
-    files: &F,
+    files: &WatchedFiles<'_, F>,
     alloc: Global,
     arguments: &ArgMatches<'_>,
     out: &mut O,
@@ -48,7 +49,7 @@ pub fn run<F: Files, O: Write>(
 
 // Writes the flash as it was when the last cut of a schedule fell.
 fn write_cut<F: Files>(
-    files: &F,
+    files: &WatchedFiles<'_, F>,
     alloc: Global,
     path: &str,
     given: &Scheduled,
@@ -59,7 +60,7 @@ fn write_cut<F: Files>(
 
 // Prints the outcome of a schedule, after the flash that is left was written where `--out` names a file.
 fn print_replay<F: Files, O: Write>(
-    files: &F,
+    files: &WatchedFiles<'_, F>,
     alloc: Global,
     arguments: &ArgMatches<'_>,
     given: &Scheduled,
@@ -78,7 +79,7 @@ fn print_replay<F: Files, O: Write>(
 ///
 /// `Open` where it cannot be made; `Write`; `Memory`.
 pub fn write_file<F: Files, S: Flash>(
-    files: &F,
+    files: &WatchedFiles<'_, F>,
     alloc: Global,
     path: &str,
     flash: &S,

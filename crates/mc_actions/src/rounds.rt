@@ -8,6 +8,7 @@ use crate::replay::write_file;
 use clap::ArgMatches;
 use mc_boot::Outcome;
 use mc_campaign::{Campaign, Round, replay_campaign, start_of_second};
+use mc_cli::WatchedFiles;
 use mc_explore::{Schedule, Start, flash_at_cut};
 use mc_flash::JournalFlash;
 use mc_options::{Refusal, check_outputs, flash_options, read_start, required};
@@ -76,7 +77,12 @@ impl Campaigned {
     /// # Errors
     ///
     /// `Replay` where a cut can't occur, or for want of memory; `Open`; `Write`.
-    fn write_cut<F: Files>(&self, files: &F, alloc: Global, path: &str) -> Result<(), Refusal> {
+    fn write_cut<F: Files>(
+        &self,
+        files: &WatchedFiles<'_, F>,
+        alloc: Global,
+        path: &str,
+    ) -> Result<(), Refusal> {
         let (firsts, seconds) = (
             self.campaign.schedule(Round::First),
             self.campaign.schedule(Round::Second),
@@ -98,7 +104,7 @@ impl Campaigned {
 ///
 /// Those of `read`; `Replay` where a cut can't occur, or for want of memory; `Open` and `Write` of the files and the output.
 pub fn replay<F: Files, O: Write>(
-    files: &F,
+    files: &WatchedFiles<'_, F>,
     alloc: Global,
     arguments: &ArgMatches<'_>,
     out: &mut O,

@@ -8,6 +8,7 @@ ghost use Rattle.mc_vectors.specs.Cases.{AreCases};
 ghost use Rattle.mc_vectors.specs.Table.{cases_text};
 
 use clap::ArgMatches;
+use mc_cli::WatchedFiles;
 use mc_explore::{ExploreError, Line, Start, flash_at_cut, replay};
 use mc_flash::{Flash, JournalFlash};
 use mc_options::{
@@ -108,7 +109,7 @@ fn unread(error: &Error) -> Refusal {
 /// The folder that the flashes are written into.
 #[derive(Drop)]
 struct Folder<'f, 'p, F: Files> {
-    files: &'f F,
+    files: &'f WatchedFiles<'f, F>,
     alloc: Global,
     path: &'p str,
     /// Whether a flash is written as a patch of the start's.
@@ -263,7 +264,7 @@ impl<F: Files> Folder<'_, '_, F> {
 ///
 /// `Argument` where patches are asked for without a folder.
 fn folder_named<'f, 'p, F: Files>(
-    files: &'f F,
+    files: &'f WatchedFiles<'f, F>,
     alloc: Global,
     arguments: &ArgMatches<'p>,
 ) -> Result<Option<Folder<'f, 'p, F>>, Refusal> {
@@ -294,7 +295,7 @@ struct Asked<'f, 'p, F: Files> {
 ///
 /// `Source`, `Layout` and the numbers of the words; `Argument`; what `read_start` refuses.
 fn read<'f, 'p, F: Files>(
-    files: &'f F,
+    files: &'f WatchedFiles<'f, F>,
     alloc: Global,
     arguments: &ArgMatches<'p>,
 ) -> Result<Asked<'f, 'p, F>, Refusal>
@@ -343,7 +344,7 @@ fn print<F: Files, O: Write>(
 ///
 /// Those of `read`, `find` and `print`; `InUse` and `Open` of the folder.
 pub fn run<F: Files, O: Write>(
-    files: &F,
+    files: &WatchedFiles<'_, F>,
     alloc: Global,
     arguments: &ArgMatches<'_>,
     out: &mut O,

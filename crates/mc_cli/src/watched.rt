@@ -60,7 +60,7 @@ impl<'f, F: Files> WatchedFiles<'f, F> {
         }
     }
 
-    /// Remembers that the file of a path failed, and why, if there is memory for the path.
+    /// Remembers that the file of a path could not be opened, made or written, and why, if there is memory for the path.
     pub fn keep_failed(&self, path: &str, error: io::Error) {
         if let Ok(path) = String::from_str(self.alloc, path)
             && let Ok(mut failed) = self.failed.try_borrow_mut()
@@ -137,14 +137,14 @@ impl<F: Files> Files for WatchedFiles<'_, F> {
 
 /// The same writer, with why its last write failed, if it did.
 #[derive(Drop)]
-pub struct WatchedWriter<'w, W: Write> {
-    writer: &'w mut W,
+pub struct WatchedWriter<W: Write + Drop> {
+    writer: W,
     failure: Option<io::Error>,
 }
 
-impl<'w, W: Write> WatchedWriter<'w, W> {
+impl<W: Write + Drop> WatchedWriter<W> {
     /// No write failed yet.
-    pub fn new(writer: &'w mut W) -> WatchedWriter<'w, W> {
+    pub fn new(writer: W) -> WatchedWriter<W> {
         WatchedWriter {
             writer,
             failure: None,
@@ -157,8 +157,8 @@ impl<'w, W: Write> WatchedWriter<'w, W> {
     }
 }
 
-impl<W: Write> Write for WatchedWriter<'_, W> {
-    ghost contents = { λ w. W.contents w.writer.now };
+impl<W: Write + Drop> Write for WatchedWriter<W> {
+    ghost contents = { λ w. W.contents w.writer };
 
     fn write(&mut self, buf: &[u8]) -> io::Result<usize> {
         let written = self.writer.write(buf);

@@ -151,7 +151,7 @@ fn run_command<F: Files, R: Read, O: Write, E: Write>(
 
 /// Runs a command on the boots of a flash.
 fn run_boots<F: Files, O: Write>(
-    files: &F,
+    files: &WatchedFiles<'_, F>,
     alloc: Global,
     name: &str,
     arguments: &ArgMatches<'_>,
@@ -171,7 +171,7 @@ fn run_boots<F: Files, O: Write>(
 
 /// Runs a command on one schedule of power cuts, or on one campaign of two rounds.
 fn run_schedule<F: Files, O: Write>(
-    files: &F,
+    files: &WatchedFiles<'_, F>,
     alloc: Global,
     name: &str,
     arguments: &ArgMatches<'_>,

@@ -1,5 +1,6 @@
 //! Files that are written: a plain one is whole, or as it was.
 use crate::refusal::Refusal;
+use mc_cli::{WatchedFiles, WatchedWriter};
 use std::alloc::Global;
 use std::fs::{OpenFile, OpenOptions};
 use std::io::{ErrorKind, Read};
@@ -15,13 +16,13 @@ const MARK: &str = ".mcsim-new";
 /// A file that is written.
 #[derive(Drop)]
 pub struct Outfile<'f, 'p, F: Files> {
-    files: &'f F,
+    files: &'f WatchedFiles<'f, F>,
     /// The path that was asked for.
     target: &'p str,
     /// The path of the file itself, where it is another that takes the target's place in the end.
     beside: Option<String>,
     /// The file.
-    pub file: F::File,
+    pub file: WatchedWriter<F::File>,
 }
 
 impl<'f, 'p, F: Files> Outfile<'f, 'p, F> {
@@ -30,13 +31,16 @@ impl<'f, 'p, F: Files> Outfile<'f, 'p, F> {
     /// # Errors
     ///
     /// `Open` where it cannot be made.
-    pub fn in_place(files: &'f F, target: &'p str) -> Result<Outfile<'f, 'p, F>, Refusal> {
+    pub fn in_place(
+        files: &'f WatchedFiles<'f, F>,
+        target: &'p str,
+    ) -> Result<Outfile<'f, 'p, F>, Refusal> {
         match fs::create(files, target) {
             Ok(file) => Ok(Outfile {
                 files,
                 target,
                 beside: None,
-                file,
+                file: WatchedWriter::new(file),
             }),
             Err(_) => Err(Refusal::Open),
         }
@@ -49,7 +53,7 @@ impl<'f, 'p, F: Files> Outfile<'f, 'p, F> {
     ///
     /// `Open` where it cannot be made; `Memory`.
     pub fn beside(
-        files: &'f F,
+        files: &'f WatchedFiles<'f, F>,
         alloc: Global,
         target: &'p str,
     ) -> Result<Outfile<'f, 'p, F>, Refusal> {
@@ -66,7 +70,7 @@ impl<'f, 'p, F: Files> Outfile<'f, 'p, F> {
     ///
     /// `Open` where it cannot be made; `Memory`.
     pub fn in_new_folder(
-        files: &'f F,
+        files: &'f WatchedFiles<'f, F>,
         alloc: Global,
         target: &'p str,
     ) -> Result<Outfile<'f, 'p, F>, Refusal> {
@@ -84,16 +88,19 @@ impl<'f, 'p, F: Files> Outfile<'f, 'p, F> {
             files,
             target,
             beside: Some(path),
-            file,
+            file: WatchedWriter::new(file),
         })
     }
 
-    /// Ends it: where it was written whole, it takes its target's place; else the target stays as it was.
+    /// Ends it: where it was written whole, it takes its target's place; else the target stays as it was. Why a write failed is remembered.
     ///
     /// # Errors
     ///
     /// What writing it was refused for; `Write` where it cannot take that place.
     pub fn end(&self, written: Result<(), Refusal>) -> Result<(), Refusal> {
+        if let Some(error) = self.file.failure() {
+            self.files.keep_failed(self.target, error);
+        }
         let Some(path) = &self.beside else {
             return written;
         };
@@ -163,35 +170,42 @@ fn remove_left<F: Files>(files: &F, alloc: Global, target: &str) -> io::Result<(
 ///
 /// `Open` where none can be made; `Memory`.
 fn create_beside<F: Files>(
-    files: &F,
+    files: &WatchedFiles<'_, F>,
     alloc: Global,
     target: &str,
 ) -> Result<(String, F::File), Refusal> {
     let own = own_number(files).unwrap_or(0);
     let first = format!(in alloc; "{target}{MARK}{own}").map_err(|_| Refusal::Memory)?;
-    if let Some(file) = create_new(files, first.as_str())? {
+    if let Some(file) = create_new(files, first.as_str(), target)? {
         return Ok((first, file));
     }
     for number in 1..MOST_NAMES {
         let path = format!(in alloc; "{target}{MARK}{own}-{number}").map_err(|_| Refusal::Memory)?;
-        if let Some(file) = create_new(files, path.as_str())? {
+        if let Some(file) = create_new(files, path.as_str(), target)? {
             return Ok((path, file));
         }
     }
     Err(Refusal::Open)
 }
 
-/// Makes a file of that name, and returns nothing where there is one.
+/// Makes a file of that name beside a target, and returns nothing where there is one.
 ///
 /// # Errors
 ///
-/// `Open` where it cannot be made.
-fn create_new<F: Files>(files: &F, path: &str) -> Result<Option<F::File>, Refusal> {
+/// `Open` where it cannot be made: it is remembered of the target.
+fn create_new<F: Files>(
+    files: &WatchedFiles<'_, F>,
+    path: &str,
+    target: &str,
+) -> Result<Option<F::File>, Refusal> {
     let mut options = OpenOptions::new();
     let _ = options.write(true).create_new(true);
     match options.open(files, path) {
         Ok(file) => Ok(Some(file)),
         Err(error) if error.kind() == ErrorKind::AlreadyExists => Ok(None),
-        Err(_) => Err(Refusal::Open),
+        Err(error) => {
+            files.keep_failed(target, error);
+            Err(Refusal::Open)
+        }
     }
 }

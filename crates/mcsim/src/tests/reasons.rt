@@ -1,6 +1,7 @@
 //! Refusals with their reasons, where `--verbose` asks for them, and what stands for options of imgtool.
 use super::faults::ends_after;
-use super::support::{Table, all_play, same_at};
+use super::support::{Table, all_play, ran_over, same_at};
+use mc_fixtures::{Fault, PAYLOAD};
 
 /// Images that are none here: one in Intel's hexadecimal form, and one that is encrypted.
 const IMAGES: &str = "\
@@ -68,6 +69,13 @@ $ census WORKED --flash in --cuts 0 --all-right --expect-primary none --verbose 
 $ life WORKED --image first --verbose < 10:0=626f6f740a626f6f640a
 1 boot boot none 0 1.0.0+0/80 settled none none
 ! mcsim: E78 EventSyntax, event 2, line 2; mcsim: line 2 is: bood; exit 1
+$ life WORKED --image first --verbose < 44:0=626f6f740a646f776e6c6f6164207365636f6e640a7265717565737420746573740a626f6f7420392e33300a
+1 boot boot none 0 1.0.0+0/80 settled none none
+2 download second 1.0.0+0/80 settled 2.0.0+0/80 none
+3 request test 1.0.0+0/80 settled 2.0.0+0/80 test
+! mcsim: E53 CannotOccur at 1, event 4, line 4; mcsim: line 4 is: boot 9.30; mcsim: cut 1 is 30, and its boot has 9 operations; exit 1
+$ life WORKED --image first --verbose < 5:0=6375742035
+! mcsim: E53 CannotOccur at 0, event 1, line 1; mcsim: line 1 is: cut 5; mcsim: cut 0 is 5, and its boot has 0 operations; exit 1
 $ locate BOARD --grain unit --flash nofile --known-a first --known-b second
 ! mcsim: note: by --grain unit ...E71 Open; exit 3
 $ census --sector 65536 --unit 1 --max-sectors 256 --chunk 1 --primary 256 --secondary 256 --flash nofile --rounds 2 --cuts 1
@@ -88,5 +96,9 @@ fn refusals_say_why(rt: HostRuntime) {
     let found = (status, err.as_str(), taken.as_slice());
     let reason = "mcsim: E25 Write\nmcsim: standard output: other error\n";
     let wanted = (3, reason, b"good ".as_slice());
-    same_at(&rt, &line, &found, &wanted)
+    same_at(&rt, &line, &found, &wanted);
+    let line = "create --verbose --version 1.2.3+4 --header-size 32 --pad-header in out";
+    let reason = "! mcsim: E25 Write\nmcsim: out: other error\nexit 3\n";
+    let ended = ran_over(&rt, rt.alloc(), line, &PAYLOAD, (1000, 5, Fault::Error));
+    same_at(&rt, &line, &ended.text(&rt, rt.alloc()).as_str(), &reason)
 }
