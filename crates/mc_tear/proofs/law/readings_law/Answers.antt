@@ -1,0 +1,8 @@
+use Rattle.mc_tear.proofs.{CasesTorn.{cases_are_torn}, Read.{each_is_read}}
+use Rattle.mc_tear.proofs.law.readings_law.Goals as goal
+
+pub returns-clause-torn : goal.returns-clause-torn
+returns-clause-torn c = cases_are_torn
+
+pub returns-clause-each : goal.returns-clause-each
+returns-clause-each c = each_is_read

@@ -1,0 +1,4 @@
+pub mod Readings
+pub mod Cases
+pub mod Laws
+pub mod inner
