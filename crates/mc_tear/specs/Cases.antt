@@ -179,5 +179,5 @@ is_case e g op s r =
     && (is_unfinished e g op s r && reads_as r (trailer_of g (torn e g op s r) (slot_of op)))
 
 -- The cases of an operation, in order.
-abbrev pub cases_of : Erasing → Geometry → Op → Content → List Reading
+unfoldable pub cases_of : Erasing → Geometry → Op → Content → List Reading
 cases_of e g op s = filter (is_case e g op s) (map reading_of (range_with_len 0 192))

@@ -1,12 +1,12 @@
 //! Which fields a torn operation may change, and which readings are cases of it.
-ghost use Rattle.std.specs.Prelude.{◌≡◌, ℕ, ◌<◌, ◌≤◌, false, length, true, IfOk, Ok, OnOk};
+ghost use Rattle.std.specs.Prelude.{◌≡◌, ℕ, ◌<◌, ◌≤◌, false, length, IfOk, OnOk};
 ghost use Rattle.std.specs.Vec.{vec_capacity};
 ghost use Rattle.mc_flash.specs.Flash.{CanTry};
 ghost use Rattle.mc_flash.specs.Usage.{HasRoom, Spends, Stays};
-ghost use Rattle.mc_tear.specs.Cases.{fields_of, if_named, is_case, is_flag, is_magic, names, put_in, reads_as, slot_of, torn_bytes, written_len};
+ghost use Rattle.mc_tear.specs.Cases.{fields_of, if_named, is_flag, is_magic, names, put_in, reads_as, slot_of, written_len};
 ghost use Rattle.mc_tear.specs.Readings.{reading_of};
 ghost use Rattle.mc_trailer.specs.Trailer.{trailer_of};
-ghost use Rattle.mc_tear.specs.inner.Room.{Applies, tear_counts};
+ghost use Rattle.mc_tear.specs.inner.Room.{Applies, Judges, tear_counts};
 
 use crate::reading::Reading;
 use crate::torn::{
@@ -172,10 +172,8 @@ pub fn is_case<F: Flash>(
         ≡ fields_of erasing f.geometry op.now f.content }
     requires buffer { written_len (F.seen flash.old).geometry op.now ≤ vec_capacity buffer.old }
     requires room { HasRoom (tear_counts (F.seen flash.old).geometry) (F.seen flash.old) }
-    ensures is { let f = F.seen flash.old in IfOk result (λ is. is
-        ≡ is_case erasing f.geometry op.now f.content reading.now) }
-    ensures filled { let f = F.seen flash.old in result ≡ Ok true → buffer.new.items
-        ≡ torn_bytes erasing f.geometry op.now f.content reading.now }
+    ensures is { IfOk result (Judges erasing op.now (F.seen flash.old) reading.now
+        buffer.new.items) }
     ensures stays { OnOk result (Stays (F.seen flash.old) (F.seen flash.new)) }
     ensures spends { Spends 2 (F.seen flash.old) result (F.seen flash.new) }
     ensures capacity { vec_capacity buffer.new ≡ vec_capacity buffer.old }

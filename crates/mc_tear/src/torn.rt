@@ -1,10 +1,11 @@
 //! What a torn operation leaves, byte by byte.
-ghost use Rattle.std.specs.Prelude.{◌≡◌, ◌+◌, ◌<◌, ◌≤◌, ◌^◌, true, length, OnOk};
+ghost use Rattle.std.specs.Prelude.{◌≡◌, ◌↔◌, ◌+◌, ◌<◌, ◌≤◌, ◌^◌, true, length, OnOk};
 ghost use Rattle.std.specs.Vec.{vec_capacity};
 ghost use Rattle.mc_flash.specs.Flash.{CanTry, byte, size_of};
 ghost use Rattle.mc_flash.specs.Usage.{Allows, Keeps, LeaveRoom, Spends, no_counts, plus};
 ghost use Rattle.mc_tear.specs.Cases.{entry_byte, flag_byte, is_entry, is_rough, is_unfinished, magic_byte, may_change, may_change_at, may_change_some, put_in, slot_of, torn_byte, torn_bytes, value_at, written_byte, written_from, written_len};
 ghost use Rattle.mc_tear.specs.inner.Room.{Applies, IsReady, tear_counts};
+ghost use Rattle.mc_trailer.specs.Trailer.{bytes_at};
 
 use crate::reading::{Entry, Reading};
 use mc_flash::{Flash, FlashError, Layout, Op, Slot};
@@ -240,7 +241,7 @@ pub fn is_unfinished<F: Flash>(flash: &F, op: &Op, bytes: &[u8]) -> bool
 
 // Whether both are the same bytes.
 fn are_same(bytes: &[u8], others: &[u8]) -> bool
-    ensures { result ≡ true → bytes.now ≡ others.now }
+    ensures { (result ≡ true) ↔ (bytes.now ≡ others.now) }
 {
     bytes == others
 }
@@ -249,8 +250,11 @@ fn are_same(bytes: &[u8], others: &[u8]) -> bool
 pub fn is_there<F: Flash>(flash: &F, op: &Op, bytes: &[u8]) -> bool
     requires can { CanTry (F.seen flash.now).geometry op.now }
     requires len { length bytes.now ≡ written_len (F.seen flash.now).geometry op.now }
-    ensures { let f = F.seen flash.now in result ≡ true → put_in f.geometry op.now f.content
-        bytes.now ≡ f.content }
+    ensures is { let f = F.seen flash.now in (result ≡ true) ↔ (bytes.now ≡ bytes_at f.content
+        (slot_of op.now) (written_from f.geometry op.now) (length bytes.now)) }
+    // Then nothing changes where they are put there.
+    ensures same { let f = F.seen flash.now in result ≡ true
+        → put_in f.geometry op.now f.content bytes.now ≡ f.content }
 {
     let from = written_from(flash.layout(), op) as usize;
     are_same(bytes, &flash.read(slot_of(op))[from..from + bytes.len()])

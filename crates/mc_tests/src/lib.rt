@@ -16,6 +16,8 @@ mod imgtool;
 #[cfg(test)]
 mod journal;
 #[cfg(test)]
+mod tears;
+#[cfg(test)]
 mod texts;
 #[cfg(test)]
 mod trailer;

@@ -1,7 +1,7 @@
 -- What a flash counts where torn bytes are put in it, and the operation that is torn.
-use Rattle.std.specs.Prelude.{List, Some, length, ℕ, ◌+◌, ◌<◌, ◌≡◌}
+use Rattle.std.specs.Prelude.{Bool, List, Some, length, true, ℕ, ◌+◌, ◌<◌, ◌≡◌}
 use Rattle.mc_flash.specs.{Flash.{CanTry, Content, IsSized, apply, byte}, Geometry.{Geometry}, Usage.{Counts, Keeps, LeaveRoom, Seen, plus}, declared.op.Op.{Op}}
-use Rattle.mc_tear.specs.Cases.{put_in, slot_of, written_from, written_len}
+use Rattle.mc_tear.specs.{Cases.{is_case, put_in, slot_of, torn_bytes, written_from, written_len}, declared.reading.Reading.{Reading}, declared.torn.Erasing.{Erasing}}
 
 -- Two operations at the most, and the bytes of a sector; one of them.
 abbrev pub tear_counts : Geometry → Counts
@@ -26,3 +26,9 @@ pub record IsReady (op : Op) (old new : Seen) : Type 0 where
   pub same : (bytes : List ℕ) → length bytes ≡ written_len old.geometry op
       → put_in old.geometry op new.content bytes ≡ put_in old.geometry op old.content bytes
   pub counts : LeaveRoom new.usage.counts one_more (plus old.usage.counts (tear_counts old.geometry))
+
+-- That is whether a reading is a case of an operation before which the flash stands; if it is, these are the bytes that it makes
+-- of those that the operation writes.
+abbrev pub Judges : Erasing → Op → Seen → Reading → List ℕ → Bool → Type 0
+Judges e op f r bytes is =
+    (is ≡ is_case e f.geometry op f.content r) × (is ≡ true → bytes ≡ torn_bytes e f.geometry op f.content r)

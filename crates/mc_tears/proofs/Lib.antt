@@ -1,0 +1,5 @@
+pub mod Listed
+pub mod Ending
+pub mod Standing
+pub mod Loads
+pub mod Written
