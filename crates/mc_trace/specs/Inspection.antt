@@ -1,6 +1,6 @@
 -- A flash explained: this project's own text (docs/FORMAT.md, "Inspection").
 use Rattle.std.specs.Prelude.{List, None, Option, Some, codes, if◌then◌else◌, slice_get, ℕ, ◌++◌}
-use Rattle.mc_boot.specs.{Outcome.{identity_text, outcome_of}, Plan.{PowerOn, plan}}
+use Rattle.mc_boot.specs.{Life.{is_at_rest}, Outcome.{identity_text, outcome_of}, Plan.{PowerOn, plan}}
 use Rattle.mc_flash.specs.{Flash.{Content, is_blank, slot_text}, Geometry.{Geometry}, declared.op.Op.{Op}, declared.op.Slot.{Slot}}
 use Rattle.mc_flash.specs.declared.op.Slot.TheVariants.{Primary, Secondary}
 use Rattle.mc_image.specs.{Valid.{Identity, id_of, image_fault}, declared.error.ImageError.{ImageError}}
@@ -17,11 +17,18 @@ unfoldable pub asked_text : Profile → Trailer → Trailer → List ℕ
 asked_text profile p s =
     codes "\nresume " ++ ((if resumes_by profile p s then codes "yes" else codes "no") ++ (codes "\ntable " ++ (type_text (swap_type profile p s) ++ codes "\n")))
 
+-- No swap is under way; the next boot goes on with it; or none does.
+abbrev pub state_text : Profile → Trailer → Trailer → List ℕ
+state_text profile p s =
+    if is_at_rest p then codes "state rest\n"
+    else if resumes_by profile p s then codes "state resumes\n"
+    else codes "state busy\n"
+
 unfoldable pub trailers_text : Profile → Geometry → Content → List ℕ
 trailers_text profile g s =
     let p = trailer_of g s Primary in
     let q = trailer_of g s Secondary in
-    both_text p q ++ asked_text profile p q
+    (both_text p q ++ asked_text profile p q) ++ state_text profile p q
 
 -- Why bytes are no valid image.
 abbrev pub fault_text : ImageError → List ℕ

@@ -6,7 +6,7 @@ ghost use Rattle.mc_flash.specs.Flash.{CanTry, size_of};
 ghost use Rattle.mc_output.specs.Text.{AppendsPrefix};
 ghost use Rattle.mc_start.specs.Start.{begun};
 ghost use Rattle.mc_trace.specs.Hints.{hints_text};
-ghost use Rattle.mc_trace.specs.Inspection.{asked_text, boot_text, both_text, bytes_text, fault_text, first_text, head_text, held_text, image_text, inspection_text, none_text, both_slots_text, trailers_text};
+ghost use Rattle.mc_trace.specs.Inspection.{asked_text, boot_text, both_text, bytes_text, fault_text, first_text, head_text, held_text, image_text, inspection_text, none_text, both_slots_text, state_text, trailers_text};
 ghost use Rattle.mc_image.specs.Valid.{id_of, image_fault};
 
 use crate::error::TraceError;
@@ -19,7 +19,7 @@ use mc_explore::{Schedule, Start, replay};
 use mc_flash::{Flash, Layout, Op, Slot, blank};
 use mc_image::{ImageError, ImageView};
 use mc_output::{Line, MOST_LINE, write_text};
-use mc_trailer::{Profile, Trailer, resumes_by, swap_type};
+use mc_trailer::{Flag, Magic, Profile, Trailer, resumes_by, swap_type};
 use std::alloc::{AllocError, Global};
 use std::io::Write;
 
@@ -41,6 +41,7 @@ fn put_both(line: &mut Line, primary: &Trailer, secondary: &Trailer)
 fn put_asked(line: &mut Line, profile: Profile, primary: &Trailer, secondary: &Trailer)
     requires { length line.old + 30 ≤ MOST_LINE }
     ensures text { line.new ≡ line.old ++ asked_text profile primary.now secondary.now }
+    ensures length { length line.new ≤ length line.old + 30 }
 {
     line.put("\nresume ");
     line.put(if resumes_by(profile, primary, secondary) {
@@ -53,7 +54,24 @@ fn put_asked(line: &mut Line, profile: Profile, primary: &Trailer, secondary: &T
     line.put("\n");
 }
 
-// Both trailers, and what they ask for.
+// The line that says whether a swap is under way, and whether the next boot goes on with it.
+fn state_line(profile: Profile, primary: &Trailer, secondary: &Trailer) -> &'static str
+    ensures text { result.now ≡ state_text profile primary.now secondary.now }
+    ensures length { length result.now ≤ 14 }
+{
+    let is_swap = matches!(primary.magic, Magic::Good)
+        && matches!(primary.copy_done, Flag::Unset)
+        && matches!(primary.swap_info, 2 | 3 | 4);
+    if !is_swap {
+        "state rest\n"
+    } else if resumes_by(profile, primary, secondary) {
+        "state resumes\n"
+    } else {
+        "state busy\n"
+    }
+}
+
+// Both trailers, what they ask for, and whether a swap is under way.
 #[tactic(auto, unfolding(crate::specs::Inspection::trailers_text))]
 fn trailers_line<F: Flash>(flash: &F, profile: Profile) -> Line
     ensures { result
@@ -64,6 +82,7 @@ fn trailers_line<F: Flash>(flash: &F, profile: Profile) -> Line
     let mut line = Line::new();
     put_both(&mut line, &primary, &secondary);
     put_asked(&mut line, profile, &primary, &secondary);
+    line.put(state_line(profile, &primary, &secondary));
     line
 }
 
@@ -271,8 +290,8 @@ fn inspection_of<F: Flash>(
     Ok(text)
 }
 
-/// Explains the flash of a start, a line each: what it comes to at one look; both trailers, whether a boot would go on with a swap that was cut, and
-/// the type that the swap tables give; hints where the layout or the dump does not fit; the valid image of each slot, or that it is
+/// Explains the flash of a start, a line each: what it comes to at one look; both trailers, whether a boot would go on with a swap that was cut,
+/// the type that the swap tables give, and whether a swap is under way with which the next boot goes on, or none; hints where the layout or the dump does not fit; the valid image of each slot, or that it is
 /// blank, or why it holds none; what lies in each sector of a slot, by what lies in those of a named flash of the same layout, those that go on
 /// with one another as one, or where there is none by what is blank and what is the trailer's; the first operation of the boot from there, as a
 /// trace has it; and its outcome. The text is made in memory.

@@ -10,6 +10,7 @@ trailer primary UNSET
 trailer secondary magic=good image-ok=unset copy-done=unset swap-info=0xff swap-size=4294967295
 resume no
 table test
+state rest
 image primary FIRST
 image secondary SECOND
 sectors primary a0 -x3
@@ -33,6 +34,7 @@ trailer primary magic=good image-ok=unset copy-done=set swap-info=0xff swap-size
 trailer secondary magic=bad image-ok=unset copy-done=unset swap-info=0xff swap-size=4294967295
 resume no
 table revert
+state rest
 image primary SECOND
 image secondary FIRST
 sectors primary b0 -x2 t
@@ -56,6 +58,7 @@ trailer primary UNSET
 trailer secondary UNSET
 resume no
 table none
+state rest
 image primary none E12 WrongDigest
 image secondary blank
 sectors primary * -x3
@@ -80,6 +83,7 @@ trailer primary UNSET
 trailer secondary UNSET
 resume no
 table none
+state rest
 hint magic primary 2
 hint --unit 1 --max-sectors 32
 hint --unit 2 --max-sectors 16
@@ -116,6 +120,7 @@ trailer primary magic=good image-ok=unset copy-done=unset swap-info=0x02 swap-si
 trailer secondary UNSET
 resume yes
 table none
+state resumes
 image primary FIRST
 image secondary blank
 sectors primary * -x2 t
@@ -129,6 +134,7 @@ trailer primary magic=good image-ok=unset copy-done=unset swap-info=0xff swap-si
 trailer secondary magic=good image-ok=unset copy-done=unset swap-info=0xff swap-size=80
 resume no
 table test
+state rest
 hint slots in the wrong order
 ...
 $ inspect WORKED --flash in < 1792:0=first,1280=second
@@ -137,6 +143,7 @@ trailer primary UNSET
 trailer secondary UNSET
 resume no
 table none
+state rest
 hint image secondary 1
 ...
 $ inspect TWO --flash in < 1152:0=first
