@@ -382,7 +382,7 @@ static EXPLORATIONS: [Explanation; 13] = [
     },
 ];
 
-static COMMANDS: [Explanation; 21] = [
+static COMMANDS: [Explanation; 23] = [
     Explanation {
         number: 70,
         name: "SourceOptions",
@@ -529,5 +529,19 @@ static COMMANDS: [Explanation; 21] = [
         status: 2,
         when: "A picture would show more than 20,000 operations, which no browser takes well.",
         remedy: "Give --from and --to: the numbers of the first and the last operation of each boot to show.",
+    },
+    Explanation {
+        number: 92,
+        name: "NoReading",
+        status: 2,
+        when: "The text of --reading is not what a boot can read of a torn operation.",
+        remedy: "Copy it from a line of tears, as magic=good,image-ok=bad, or data.",
+    },
+    Explanation {
+        number: 93,
+        name: "NoCase",
+        status: 1,
+        when: "The boot has no operation of that number, or this no such case.",
+        remedy: "Look for its cases with tears --all, and give the same --schedule and --erase.",
     },
 ];

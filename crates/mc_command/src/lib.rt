@@ -5,6 +5,7 @@ ghost use Rattle.std.specs.Prelude.{◌≤◌};
 
 mod inspect;
 mod picture;
+mod tears;
 
 use clap::error::ErrorKind;
 use clap::{ArgMatches, Error};
@@ -161,6 +162,7 @@ fn run_boots<F: Files, O: Write>(
         "type" => trailers::run(files, alloc, arguments, out),
         "boot" => replay::boot(files, alloc, arguments, out),
         "picture" => picture::run(files, alloc, arguments, out),
+        "tears" => tears::run(files, alloc, arguments, out),
         "vectors" => vectors::run(files, alloc, arguments, out),
         "inspect" => inspect::run(files, alloc, arguments, out),
         "locate" => inspect::find(files, alloc, arguments, out),

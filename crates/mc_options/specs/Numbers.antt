@@ -39,6 +39,7 @@ option_name numbers.From = codes "from"
 option_name numbers.To = codes "to"
 option_name numbers.EraseUs = codes "erase-us"
 option_name numbers.WriteUs = codes "write-us"
+option_name numbers.At = codes "at"
 
 -- the least and the largest number that it takes
 abbrev pub least_of : NumberOption → ℕ

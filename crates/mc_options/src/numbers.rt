@@ -30,6 +30,7 @@ pub enum NumberOption {
     To,
     EraseUs,
     WriteUs,
+    At,
 }
 
 impl NumberOption {
@@ -54,6 +55,7 @@ impl NumberOption {
             NumberOption::To => "to",
             NumberOption::EraseUs => "erase-us",
             NumberOption::WriteUs => "write-us",
+            NumberOption::At => "at",
         }
     }
 

@@ -104,6 +104,12 @@ pub enum Refusal {
     /// A picture would show more operations than a browser can.
     #[error("E91 LargePicture")]
     LargePicture,
+    /// The text says nothing that a boot can read of a torn operation.
+    #[error("E92 NoReading")]
+    NoReading,
+    /// The boot has no operation of that number, or this no such case.
+    #[error("E93 NoCase")]
+    NoCase,
     /// A file of a layout has a line that is none of its options.
     #[error("E88 LayoutFile")]
     LayoutFile,
@@ -160,11 +166,16 @@ impl Refusal {
             | Refusal::LayoutFile
             | Refusal::NeverSwaps
             | Refusal::LargePicture
+            | Refusal::NoReading
             | Refusal::Layout(_)
             | Refusal::Schedule(_)
             | Refusal::Campaign(_)
             | Refusal::Cursor(_) => 2,
-            Refusal::NotAllBoot | Refusal::NotAllRight | Refusal::NotWhole | Refusal::MoreCuts => 1,
+            Refusal::NotAllBoot
+            | Refusal::NotAllRight
+            | Refusal::NotWhole
+            | Refusal::MoreCuts
+            | Refusal::NoCase => 1,
             Refusal::Script(error) => script_status(*error),
             Refusal::Life(error) => life_status(*error),
             Refusal::Start(error) => start_status(*error),

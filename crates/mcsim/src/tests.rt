@@ -15,6 +15,7 @@ mod rights;
 mod rounds;
 mod sixteen;
 mod support;
+mod tears;
 mod texts;
 mod tracing;
 mod vectors;

@@ -27,6 +27,7 @@ pub enum Group {
     Trace,
     Sectors,
     Picture,
+    Tears,
     Vectors,
     Dump,
     Exploration,
@@ -54,6 +55,7 @@ impl Group {
             Group::Trace => Some("Trace"),
             Group::Sectors => Some("Sectors"),
             Group::Picture => Some("Picture"),
+            Group::Tears => Some("Tears"),
             Group::Vectors => Some("Vectors"),
             Group::Dump => Some("Dump"),
             Group::Exploration | Group::Campaign => Some("Exploration"),
@@ -81,6 +83,7 @@ impl Group {
             Group::Trace => &TRACE,
             Group::Sectors => &SECTORS,
             Group::Picture => &PICTURE,
+            Group::Tears => &TEARS,
             Group::Vectors => &VECTORS,
             Group::Dump => &DUMP,
             Group::Exploration => &EXPLORATION,
@@ -565,6 +568,46 @@ static VERDICT: [Word; 4] = [
 /// What gives a page that shows the boots of a schedule.
 static PICTURE: [Word; 5] = [SCHEDULE_IF_ANY, FROM, TO, EXPECT_PRIMARY, EXPECT_SECONDARY];
 
+/// What gives what torn operations lead to.
+static TEARS: [Word; 9] = [
+    SCHEDULE_IF_ANY,
+    Word {
+        name: "erase",
+        takes: Takes::OneOf("HOW", &["gentle", "rough"]),
+        default: Some("gentle"),
+        help: "A torn erase only sets bits, or it may leave any bytes in its sector",
+        ..FLAG
+    },
+    Word {
+        name: "all",
+        help: "Print each case, also one that ends as a cut before or after it does",
+        ..FLAG
+    },
+    Word {
+        name: "all-right",
+        help: "Refuse, after the lines, where a case does not end right, or is busy",
+        ..FLAG
+    },
+    EXPECT_PRIMARY,
+    EXPECT_SECONDARY,
+    Word {
+        name: "at",
+        help: "Write the flash of a case of that operation (with --reading, --out)",
+        ..NUMBER
+    },
+    Word {
+        name: "reading",
+        takes: Takes::Value("R"),
+        help: "What is read there, as magic=good,image-ok=bad",
+        ..FLAG
+    },
+    Word {
+        name: "out",
+        help: "Write that flash (primary, then secondary)",
+        ..FILE
+    },
+];
+
 /// Which flashes are written, and where.
 static VECTORS: [Word; 3] = [
     Word {
@@ -701,6 +744,21 @@ they belong; from a flash, with those that are expected, or any. No more than 20
 boots --from and --to say which.
 Example:
   mcsim picture [LAYOUT] [SOURCE] --schedule 9.4 > swap.html";
+
+const AFTER_TEARS: &str = "\
+What if power is lost within an operation? Of the boot after the schedule: how many operations it
+has, and how many cases; then a line for each case that ends otherwise than a cut before or after
+its operation does:
+  5 magic=good,image-ok=bad boot none 0 1.0.0+0/80 2.0.0+0/80 none busy
+The number of the operation; what the next boot reads where it may have changed something; how that
+boot ends, as in a row of explore; and whether the flash that it leaves says a swap is under way
+(busy): where no boot goes on with it, the next download, which erases the secondary, may leave the
+device without an image. `data`: no field of a trailer changes; entry: a step of the swap is noted. Whatever
+bytes the operation leaves, the next boot reads one of these cases, or what a cut leaves.
+With --at, --reading and --out the flash of that case is written, from which every command goes on.
+Right is as for census, and not busy.
+Example:
+  mcsim tears [LAYOUT] [SOURCE] --erase rough --all-right";
 
 const AFTER_VECTORS: &str = "\
 Most schedules leave a flash that a shorter one leaves too. This lists each distinct flash once, with the
@@ -918,7 +976,7 @@ static BOOTS: [Subcommand; 5] = [
     },
 ];
 
-static FLASHES: [Subcommand; 5] = [
+static FLASHES: [Subcommand; 6] = [
     Subcommand {
         name: "sectors",
         aliases: &[],
@@ -940,6 +998,14 @@ static FLASHES: [Subcommand; 5] = [
         usage: Some("mcsim picture <LAYOUT> <SOURCE> [OPTIONS]"),
         after_help: Some(AFTER_PICTURE),
         groups: &[Group::Layout, Group::Source, Group::Rules, Group::Picture],
+    },
+    Subcommand {
+        name: "tears",
+        aliases: &[],
+        about: "Show what power that fails within an operation leads to, case by case",
+        usage: Some("mcsim tears <LAYOUT> <SOURCE> [OPTIONS]"),
+        after_help: Some(AFTER_TEARS),
+        groups: &[Group::Layout, Group::Source, Group::Rules, Group::Tears],
     },
     Subcommand {
         name: "vectors",

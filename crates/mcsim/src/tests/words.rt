@@ -110,6 +110,8 @@ E1 Truncated, exit status 1
 E2 BadMagic, exit status 1...
 E90 NotAligned, exit status 1
 E91 LargePicture, exit status 2
+E92 NoReading, exit status 2
+E93 NoCase, exit status 1
 $ 
 ! ...Usage: mcsim [OPTIONS] <COMMAND>...exit 2
 ";
