@@ -81,6 +81,11 @@ uint32_t mcsim_outcome(const struct mcsim_source *source, const uint8_t *a, size
 uint32_t mcsim_flash_left(const struct mcsim_source *source, const uint8_t *a, size_t a_len, const uint8_t *b, size_t b_len,
     const uint32_t *cuts, size_t cuts_len, uint8_t *out, size_t room, uint64_t *count);
 
+/* What power that is lost within an operation of the uncut boot after the cuts leads to (`mcsim tears`), where an erase fails gently or
+ * roughly; with `all` each case, else those that end otherwise than after a cut. */
+uint32_t mcsim_tears(const struct mcsim_source *source, const uint8_t *a, size_t a_len, const uint8_t *b, size_t b_len,
+    const uint32_t *cuts, size_t cuts_len, bool rough, bool all, uint8_t *out, size_t room, uint64_t *count);
+
 /* What all schedules of at most `bound` cuts come to (`mcsim census`). */
 uint32_t mcsim_census(const struct mcsim_source *source, const uint8_t *a, size_t a_len, const uint8_t *b, size_t b_len,
     uint32_t bound, uint8_t *out, size_t room, uint64_t *count);

@@ -106,6 +106,11 @@ class Source:
         """The bytes of both slots that it leaves."""
         return self._ask("mcsim_flash_left", *self._cuts(cuts), room=self._room)
 
+    def tears(self, cuts=(), rough=False, every=False):
+        """The text of what power that is lost within an operation of the uncut boot after the cuts leads to: where it ends otherwise than
+        after a cut, or in every case."""
+        return self._ask("mcsim_tears", *self._cuts(cuts), ctypes.c_bool(rough), ctypes.c_bool(every)).decode()
+
     def census(self, bound=16):
         """What all schedules of at most so many cuts come to, by the names of the lines."""
         lines = self._ask("mcsim_census", ctypes.c_uint32(bound)).decode().splitlines()

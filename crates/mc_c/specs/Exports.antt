@@ -6,7 +6,7 @@ use Rattle.mc_flash.specs.declared.flash.Grain.TheVariants as grains
 use Rattle.mc_trailer.specs.declared.tables.Profile.{Profile}
 use Rattle.mc_trailer.specs.declared.tables.Profile.TheVariants as profiles
 use Rattle.mc_trailer.specs.declared.tables.Rules.{Rules}
-use Rattle.mc_boot.specs.{Outcome.{Report, after, outcome_text}, Plan.{PowerOn}}
+use Rattle.mc_boot.specs.{Outcome.{Report, after, outcome_text}, Plan.{PowerOn, again}}
 use Rattle.mc_boot.specs.declared.kind.Kind.TheVariants as kinds
 use Rattle.mc_start.specs.{Start.{Started, Starts, Gives, begun, of_flash}, declared.start.StartError.{StartError}}
 use Rattle.mc_explore.specs.{Census.{IsCensus, census_text}, Page.{PageIsOut}, Rows.{State, after_key, at_start, subject}}
@@ -19,6 +19,9 @@ use Rattle.mc_trace.specs.declared.sectors.Moment.TheVariants as moments
 use Rattle.mc_trace.specs.declared.sectors.View.{View}
 use Rattle.mc_trace.specs.declared.cells.Words.TheVariants as words
 use Rattle.mc_trace.specs.declared.trace.Span.{Span}
+use Rattle.mc_explore.specs.declared.expectation.Wanted.TheVariants as wanted
+use Rattle.mc_tear.specs.declared.torn.Erasing.TheVariants as erasings
+use Rattle.mc_tears.specs.{Tears.{tears_text}, declared.cases.Asked.{Asked}}
 use Rattle.mc_options.specs.{Statuses.{status_of}, declared.refusal.Refusal.{Refusal}}
 use Rattle.mc_options.specs.declared.refusal.Refusal.TheVariants as refusals
 use Rattle.mc_c.specs.declared.source.Origin.{Origin}
@@ -144,6 +147,20 @@ is_left s cuts bytes = (r : Report) × (z : Content) × IsReplayed (begun s) cut
 
 abbrev pub IsFlashLeft : Source → List ℕ → List ℕ → List ℕ → Answer → Type 0
 IsFlashLeft = OfSchedule is_left
+
+-- What torn operations of the uncut boot after it lead to, where nothing is expected of the slots.
+abbrev pub asked_of : Bool → Bool → Asked
+asked_of rough all = record {
+  erasing = if rough then erasings.Rough else erasings.Gentle;
+  all = all;
+  expectation = record { primary = wanted.Anything; secondary = wanted.Anything };
+}
+
+abbrev pub is_tears : Asked → Started → List ℕ → List ℕ → Type 0
+is_tears asked s cuts text = (u : Content) × (after (begun s) cuts ≡ Some u) × (text ≡ tears_text asked (again (begun s) u))
+
+abbrev pub IsTears : Asked → Source → List ℕ → List ℕ → List ℕ → Answer → Type 0
+IsTears asked = OfSchedule (is_tears asked)
 
 -- The census of at most so many cuts.
 abbrev pub is_census : Started → ℕ → List ℕ → Type 0

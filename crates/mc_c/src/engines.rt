@@ -3,7 +3,7 @@ ghost use Rattle.std.specs.Prelude.{◌≡◌, ◌≤◌, IfErr, IfOk, MatchResu
 ghost use Rattle.mc_boot.specs.Outcome.{outcome_text, shown};
 ghost use Rattle.mc_start.specs.Start.{begun};
 ghost use Rattle.mc_trace.specs.Sectors.{slots_bytes};
-ghost use Rattle.mc_c.specs.Exports.{Begins, IsCensusText, IsFlashAtCut, IsFlashLeft, IsOutcome, IsPage, IsPicture, IsTrace, PageOf, RefusesPage, TextOf, is_at_cut, is_left, is_outcome, is_picture, is_trace, state_at};
+ghost use Rattle.mc_c.specs.Exports.{Begins, IsCensusText, IsFlashAtCut, IsFlashLeft, IsOutcome, IsPage, IsPicture, IsTears, IsTrace, PageOf, RefusesPage, TextOf, is_at_cut, is_left, is_outcome, is_picture, is_tears, is_trace, state_at};
 
 use crate::source::Source;
 use mc_boot::Outcome;
@@ -14,6 +14,7 @@ use mc_explore::{
 use mc_flash::JournalFlash;
 use mc_options::Refusal;
 use mc_output::{Line, write_line};
+use mc_tears::{Asked, write_tears};
 use mc_trace::{Span, View, write_sectors, write_slots, write_trace};
 use std::alloc::Global;
 
@@ -197,6 +198,45 @@ pub fn left(
 {
     let (start, schedule) = begin(alloc, source, a, b, cuts)?;
     bytes_left(alloc, &start, &schedule)
+}
+
+// What torn operations of the boot after a schedule lead to.
+fn tears_text(
+    alloc: Global,
+    start: &Start,
+    schedule: &Schedule,
+    asked: &Asked,
+) -> Result<Vec<u8>, Refusal>
+    ensures { TextOf (begun start.now) schedule.now (is_tears asked.now start.now
+        schedule.now) result }
+{
+    let flash: JournalFlash = match flash_at_cut(alloc, start, schedule) {
+        Ok(flash) => flash,
+        Err(error) => return Err(Refusal::Replay(error)),
+    };
+    let Ok(after) = start.again(alloc, &flash) else {
+        return Err(Refusal::Memory);
+    };
+    let mut text = Vec::new(alloc);
+    match write_tears::<JournalFlash, Vec<u8>>(alloc, &after, asked, &mut text) {
+        Ok(_) => Ok(text),
+        Err(_) => Err(Refusal::Memory),
+    }
+}
+
+/// What torn operations of the uncut boot after a schedule lead to.
+pub fn tears(
+    alloc: Global,
+    source: &Source,
+    a: &[u8],
+    b: &[u8],
+    cuts: &[u32],
+    asked: &Asked,
+) -> Result<Vec<u8>, Refusal>
+    ensures { IsTears asked.now source.now a.now b.now cuts.now result }
+{
+    let (start, schedule) = begin(alloc, source, a, b, cuts)?;
+    tears_text(alloc, &start, &schedule, asked)
 }
 
 /// The census of at most so many cuts.

@@ -1,12 +1,14 @@
 //! The engines, over a caller's buffers. Each returns 0 and puts its text into the buffer, as much of it as fits, with the length of
 //! the whole text; or it returns the status of a refusal, and puts the line of that there.
 ghost use Rattle.std.specs.Prelude.{◌≡◌, ◌≤◌, length};
-ghost use Rattle.mc_c.specs.Exports.{Answer, IsCensusText, IsFlashAtCut, IsFlashLeft, IsGiven, IsOutcome, IsPage, IsPicture, IsTrace, span_of, view_of};
+ghost use Rattle.mc_c.specs.Exports.{Answer, IsCensusText, IsFlashAtCut, IsFlashLeft, IsGiven, IsOutcome, IsPage, IsPicture, IsTears, IsTrace, asked_of, span_of, view_of};
 
 use crate::engines::Rows;
 use crate::source::Source;
 use crate::{engines, put};
+use mc_explore::Expectation;
 use mc_options::Refusal;
+use mc_tears::{Asked, Erasing};
 use mc_trace::{Moment, Span, View, Words};
 use std::alloc::Global;
 
@@ -85,6 +87,47 @@ pub extern "C" fn mcsim_sectors(
         × IsGiven answer result out.new count.new }
 {
     let answer = engines::picture(alloc, source, a, b, cuts, view_of(end, all));
+    give(alloc, answer, out, count)
+}
+
+// What is asked of torn operations.
+fn asked_of(rough: bool, all: bool) -> Asked
+    ensures { result ≡ asked_of rough all }
+{
+    Asked {
+        erasing: if rough {
+            Erasing::Rough
+        } else {
+            Erasing::Gentle
+        },
+        all,
+        expectation: Expectation::any(),
+    }
+}
+
+/// What torn operations of the uncut boot after a schedule lead to, as `mcsim tears` prints it: an erase fails gently or roughly, and each
+/// case is told or only those that end otherwise than after a cut.
+///
+/// # Errors
+///
+/// 2 where there are more than 16 cuts, or the source is none; 1 where its bytes are refused, or a cut can't occur; 3 where an
+/// allocation fails. The buffer holds the line of the refusal then.
+#[unsafe(no_mangle)]
+pub extern "C" fn mcsim_tears(
+    alloc: Global,
+    source: &Source,
+    a: &[u8],
+    b: &[u8],
+    cuts: &[u32],
+    rough: bool,
+    all: bool,
+    out: &mut [u8],
+    count: &mut u64,
+) -> u32
+    ensures { (answer : Answer) × IsTears (asked_of rough all) source.now a.now b.now cuts.now answer
+        × IsGiven answer result out.new count.new }
+{
+    let answer = engines::tears(alloc, source, a, b, cuts, &asked_of(rough, all));
     give(alloc, answer, out, count)
 }
 

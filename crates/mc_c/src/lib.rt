@@ -16,7 +16,7 @@ mod tests;
 pub use command::{Lengths, mcsim_run};
 pub use exports::{
     mcsim_census, mcsim_flash_at_cut, mcsim_flash_left, mcsim_outcome, mcsim_rows, mcsim_sectors,
-    mcsim_trace,
+    mcsim_tears, mcsim_trace,
 };
 pub use source::Source;
 

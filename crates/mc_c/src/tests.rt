@@ -2,7 +2,7 @@
 //! code with this repository.
 use crate::{
     Lengths, Source, mcsim_census, mcsim_flash_at_cut, mcsim_flash_left, mcsim_outcome, mcsim_rows,
-    mcsim_run, mcsim_sectors, mcsim_trace,
+    mcsim_run, mcsim_sectors, mcsim_tears, mcsim_trace,
 };
 use std::alloc::Global;
 use std::process::Abort;
@@ -177,6 +177,14 @@ secondary 1.0.0+0 80 e3103e985884e987aaeb3091f107d4ad2ae5ff4720f4c43459c3d0ff3a1
 next revert
 ";
 
+static TEARS: &str = "\
+operations 18
+cases 51
+4 magic=good,image-ok=set boot perm 19 2.0.0+0/80 1.0.0+0/80 none rest
+4 magic=good,image-ok=bad boot none 0 1.0.0+0/80 2.0.0+0/80 none busy
+17 copy-done=bad boot none 0 2.0.0+0/80 1.0.0+0/80 none rest
+";
+
 static CENSUS: &str = "\
 schedules 222
 boot 222
@@ -238,6 +246,29 @@ fn gives_texts(rt: &impl Abort, alloc: Global, a: &[u8], b: &[u8]) {
     gives(rt, "sectors", (told, out.as_slice(), count), (0, sectors))
 }
 
+/// Looks at what torn operations lead to.
+fn gives_tears(rt: &impl Abort, alloc: Global, a: &[u8], b: &[u8]) {
+    let (mut out, mut count) = (room(rt, alloc), 0);
+    let (rough, all) = (true, false);
+    let told = mcsim_tears(
+        alloc,
+        &WORKED,
+        a,
+        b,
+        &[],
+        rough,
+        all,
+        out.as_mut_slice(),
+        &mut count,
+    );
+    gives(
+        rt,
+        "tears",
+        (told, out.as_slice(), count),
+        (0, TEARS.as_bytes()),
+    )
+}
+
 /// Looks at what many schedules come to.
 fn gives_counts(rt: &impl Abort, alloc: Global, a: &[u8], b: &[u8]) {
     let (mut out, mut count) = (room(rt, alloc), 0);
@@ -296,6 +327,7 @@ fn gives_what_is_asked_for(rt: HostRuntime) {
         assert!(rt; file.is_empty());
     }
     gives_texts(&rt, rt.alloc(), a, b);
+    gives_tears(&rt, rt.alloc(), a, b);
     gives_counts(&rt, rt.alloc(), a, b);
     gives_flashes(&rt, rt.alloc(), a, b)
 }
