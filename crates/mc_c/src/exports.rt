@@ -124,7 +124,8 @@ pub extern "C" fn mcsim_tears(
     out: &mut [u8],
     count: &mut u64,
 ) -> u32
-    ensures { (answer : Answer) × IsTears (asked_of rough all) source.now a.now b.now cuts.now answer
+    ensures { (answer : Answer)
+        × IsTears (asked_of rough all) source.now a.now b.now cuts.now answer
         × IsGiven answer result out.new count.new }
 {
     let answer = engines::tears(alloc, source, a, b, cuts, &asked_of(rough, all));
