@@ -6,7 +6,7 @@ ghost use Rattle.mc_explore.specs.inner.OneRound.{CountsAtMost, begins, most_of}
 ghost use Rattle.mc_tears.specs.Ends.{are_alike, end_text, ends_right, hold_one, is_busy, is_one, shown_end};
 ghost use Rattle.mc_tears.specs.inner.Standing.{IsWhole, Returns};
 
-use mc_boot::{Boot, ImageId, Outcome};
+use mc_boot::{ImageId, Outcome};
 use mc_explore::{Expectation, Labels, OneRound, Summary, put_outcome, put_slots};
 use mc_flash::{Flash, Slot};
 use mc_output::{Line, MOST_LINE};

@@ -167,9 +167,14 @@ fn counts_line(operations: u32, cases: u64) -> Line
     line
 }
 
-/// Writes what the torn operations of the boot from a start lead to: how many operations it has and how many cases these, and a line for
-/// each case, or for each that ends otherwise than a power cut before the operation or after it: the operation's number, what is
-/// read, how the boot ends from there, and whether the flash that it leaves says that a swap is under way. Whether each case is right.
+/// Writes what power that is lost within an operation of the boot from a start leads to: how many operations that boot makes uncut, how many
+/// cases these have, and a line for each case, or for each that ends otherwise than after a power cut before the operation or behind it:
+/// the operation's number, what is read, how the boot from there ends, and whether the flash that it leaves says that a swap is under way
+/// (docs/FORMAT.md, "Torn operations"). Whether each case is right. It takes one flash and the bytes of a slot.
+///
+/// # Errors
+///
+/// `Memory`: nothing is written then, where the flash counts. `Write`, where a write fails or takes no bytes: a beginning of the text is out.
 pub fn write_tears<F: Flash + Drop, W: Write>(
     alloc: Global,
     start: &Start,
