@@ -192,7 +192,7 @@ fn cut_at(device: &mut Device<SnapFlash>, cuts: &[u32], index: usize) -> Option<
 fn cut_of(device: &mut Device<SnapFlash>, event: &Event<'_>, index: usize) -> Option<(u32, u32)> {
     match event {
         Event::Boot(schedule) => cut_at(device, schedule.cuts(), index),
-        Event::Cut(count) => cut_at(device, &[*count], index),
+        Event::Cut(count) | Event::Tear(count, _) => cut_at(device, &[*count], index),
         _ => None,
     }
 }

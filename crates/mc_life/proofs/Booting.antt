@@ -13,7 +13,7 @@ use Rattle.std.proofs.lemmas.List.Edits.{length-between}
 use Rattle.mc_life.specs.Device.{Cuts, FailsAt, cut_ops, from, Counts, worn}
 use Rattle.mc_life.proofs.Worn.{worn_both}
 
-take_next : {A : Type 0} (xs rest : List A) (x : A) (k : ℕ) → drop k xs ≡ x ∷ rest → take (k + 1) xs ≡ take k xs ++ x ∷ []
+pub take_next : {A : Type 0} (xs rest : List A) (x : A) (k : ℕ) → drop k xs ≡ x ∷ rest → take (k + 1) xs ≡ take k xs ++ x ∷ []
 take_next {A} xs rest x k is = ap (λ n. take n xs) plus ∙ go xs k is
   where
     plus : k + 1 ≡ suc k

@@ -1,6 +1,7 @@
 mod Worn
 mod Wiping
 mod Booting
+mod Losing
 mod Going
 mod Reading
 mod Lines

@@ -4,7 +4,8 @@ use Rattle.std.specs.{Char.{digit_value}, Str.Parse.{AllDigits, IsNumeral, digit
 use Rattle.std.proofs.Common.{arith, inl, inr, sym, ap, subst, append_assoc, append-nil, ◌∙◌}
 use Rattle.std.proofs.lemmas.Bool.Decides.{nat_tests}
 use Rattle.mc_output.specs.facts.Parting.{AreParts, Lacks, lacks_decimal, no_part, one_part}
-use Rattle.mc_life.specs.Script.{BeginsWith, IsBare, Spells, Writes, WritesBoth, line_of}
+use Rattle.mc_life.specs.Script.{BeginsWith, IsBare, Spells, Writes, WritesBoth, WritesTear, line_of}
+use Rattle.mc_tear.specs.{Readings.{reading_of, reading_text}, declared.reading.Reading.{Reading}}
 
 -- ---- numbers
 
@@ -60,6 +61,23 @@ module _ (text first second : List ℕ) (p : AreParts 32 text first second) wher
 
 pub no_both : (text : List ℕ) → Lacks 32 text → (m n : ℕ) → WritesBoth m n text → ⊥
 no_both text lacks m n w = no_part 32 text w.first w.second lacks w.text_is
+
+-- ---- a number and a reading
+
+module _ (text first second : List ℕ) (p : AreParts 32 text first second) where
+  tear_is : (n : ℕ) (r : Reading) → WritesTear n r text → Writes n first × (second ≡ reading_text r)
+  tear_is n r w =
+      let e = one_part 32 first w.first second (reading_text r) p.lacks (writes_one_word n w.first w.first_is) (sym p.parts ∙ w.text_is) in
+      (subst (Writes n) (sym e.0) w.first_is, e.1)
+
+  pub no_number : ((n : ℕ) → Writes n first → ⊥) → (n : ℕ) (r : Reading) → WritesTear n r text → ⊥
+  no_number none n r w = none n (tear_is n r w).0
+
+  pub no_reading : ((k : ℕ) → k < 192 → second ≡ reading_text (reading_of k) → ⊥) → (n : ℕ) (r : Reading) → WritesTear n r text → ⊥
+  no_reading none n r w = none w.number w.few ((tear_is n r w).1 ∙ ap reading_text w.reading_is)
+
+pub no_tear : (text : List ℕ) → Lacks 32 text → (n : ℕ) (r : Reading) → WritesTear n r text → ⊥
+no_tear text lacks n r w = no_part 32 text w.first (reading_text r) lacks w.text_is
 
 -- ---- names
 

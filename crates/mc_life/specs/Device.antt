@@ -1,13 +1,15 @@
 -- A device as callers see it, what can happen to it, what is refused of that, and how often its sectors were erased (docs/LIFE.md).
 use Rattle.std.specs.{Int.{next_multiple_of}, List.{between}}
-use Rattle.std.specs.Prelude.{Bool, IfSome, List, None, Option, Some, [], codes, decimal, drop, false, get_or, length, map, min, replicate, slice_get, suc, take, true, zero, ℕ, ⊤, ◌%◌, ◌++◌, ◌+◌, ◌-◌, ◌<◌, ◌^◌, ◌∷◌, ◌≡◌, ◌≢◌, ◌≤◌, ◌⊎◌}
-use Rattle.mc_boot.specs.{Life.{Event, Lives, Moment, all_erases, boot, cut}, Outcome.{Report, after, cut_at, ops_of, outcome_of}}
-use Rattle.mc_boot.specs.Plan.{PowerOn, again, image_ok_write}
+use Rattle.std.specs.Prelude.{Bool, IfSome, List, None, Option, Some, [], codes, decimal, drop, false, get_or, if◌then◌else◌, length, map, min, replicate, slice_get, suc, take, true, zero, ℕ, ⊤, ◌%◌, ◌++◌, ◌+◌, ◌-◌, ◌<◌, ◌^◌, ◌∷◌, ◌≡◌, ◌≢◌, ◌≤◌, ◌⊎◌}
+use Rattle.mc_boot.specs.{Life.{Event, Lives, Moment, all_erases, boot, cut}, Outcome.{Report, after, at, cut_at, ops_of, outcome_of}, Torn.{IsTorn, roughly}}
+use Rattle.mc_boot.specs.Plan.{PowerOn, again, image_ok_write, powered}
 use Rattle.mc_flash.specs.{Flash.{Content, apply, is_blank, put, sectors_of, size_of, with_bytes}, Geometry.{Geometry}, Usage.{Seen}}
 use Rattle.mc_flash.specs.{declared.flash.FlashError.{FlashError}, declared.op.Op.{Op}, declared.op.Op.TheVariants.{Erase, Program}, declared.op.Slot.{Slot}}
 use Rattle.mc_flash.specs.declared.op.Slot.TheVariants.{Primary, Secondary}
 use Rattle.mc_life.specs.{declared.error.EventError.{EventError}, declared.request.Request.{Request}}
 use Rattle.mc_start.specs.Start.{Started}
+use Rattle.mc_tear.specs.{Cases.{is_case, torn}, declared.reading.Reading.{Reading}}
+use Rattle.mc_tear.specs.declared.torn.Erasing.TheVariants as erasings
 use Rattle.mc_trailer.specs.{Tables.{is_set}, Trailer.{magic_bytes, one_unit, place, room, trailer_of}, declared.tables.Rules.{Rules}}
 use Rattle.mc_life.specs.declared.error.EventError.TheVariants as errors
 use Rattle.mc_trailer.specs.declared.places.Field.TheVariants as field
@@ -48,6 +50,39 @@ pub record EndsAs (x : PowerOn) (cuts : List ℕ) (outcome : Report) : Type 0 wh
   pub left : Content
   pub occurs : after x cuts ≡ Some left
   pub outcome_is : outcome_of (again x left) ≡ Some outcome
+
+-- The boot comes to operation number count, before which it leaves s.
+pub record ComesTo (x : PowerOn) (count : ℕ) (op : Op) (s : Content) : Type 0 where
+  pub next : slice_get (ops_of x) count ≡ Some op
+  pub reached : at x count ≡ Some s
+
+-- It comes to its next operation, if there is one, or makes no more than so many.
+abbrev pub Stops : PowerOn → ℕ → Content → Option Op → Type 0
+Stops x count s None = cut_at x count ≡ None
+Stops x count s (Some op) = ComesTo x count op s
+
+-- What is left of s where power is lost within an operation and the next boot reads so: as a gentle erase leaves it, or, where that is no case
+-- of one, as a rough one does (docs/FORMAT.md, "Torn operations"). None where it is no case of either.
+abbrev pub torn_so : Geometry → Op → Content → Reading → Option Content
+torn_so g op s r =
+    if is_case erasings.Gentle g op s r then Some (torn erasings.Gentle g op s r)
+    else if is_case erasings.Rough g op s r then Some (torn erasings.Rough g op s r)
+    else None
+
+-- Power is lost within operation number count, the next boot reads so, and t is left, as the operation may leave it.
+pub record LosesSo (x : PowerOn) (count : ℕ) (r : Reading) (t : Content) : Type 0 where
+  pub op : Op
+  pub before : Content
+  pub comes : ComesTo x count op before
+  pub leaves : torn_so x.geometry op before r ≡ Some t
+  pub is_torn : IsTorn roughly x.geometry op before t
+
+-- It is no case.
+pub record NoCase (x : PowerOn) (count : ℕ) (r : Reading) : Type 0 where
+  pub op : Op
+  pub before : Content
+  pub comes : ComesTo x count op before
+  pub none : torn_so x.geometry op before r ≡ None
 
 -- How often each sector was erased. Counts stay at the greatest 64-bit number.
 
@@ -134,6 +169,15 @@ pub record Goes (d : Standing) (events : List Event) (ops : List Op) (e : Standi
   pub geometry : e.seen.geometry ≡ d.seen.geometry
   pub wear : e.wear ≡ worn d.wear ops
 
+-- Power is lost within operation number count of the boot from d, the next boot reads so, and e is left. What erases a sector and is torn
+-- wears it as the whole operation does.
+pub record IsTornTo (d : Standing) (count : ℕ) (r : Reading) (e : Standing) : Type 0 where
+  pub loses : LosesSo (powered d.rules d.seen) count r e.seen.content
+  pub off : e.runs ≡ false
+  pub rules : e.rules ≡ d.rules
+  pub geometry : e.seen.geometry ≡ d.seen.geometry
+  pub wear : e.wear ≡ worn d.wear (take (count + 1) (ops_of (powered d.rules d.seen)))
+
 -- What a running image does to the flash.
 
 -- The erases of so many sectors of the secondary, the last first.
@@ -203,6 +247,13 @@ abbrev pub RefusesCuts : PowerOn → List ℕ → EventError → Type 0
 RefusesCuts x cuts (errors.CannotOccur index) = FailsAt x cuts index
 RefusesCuts x cuts errors.Memory = ⊤
 RefusesCuts x cuts _ = ⊥
+
+-- The boot makes no such operation; or it does, and it is no case of that.
+abbrev pub RefusesTear : PowerOn → ℕ → Reading → EventError → Type 0
+RefusesTear x count r (errors.CannotOccur index) = FailsAt x (count ∷ []) index
+RefusesTear x count r errors.NoCase = NoCase x count r
+RefusesTear x count r errors.Memory = ⊤
+RefusesTear x count r _ = ⊥
 
 -- No image runs.
 abbrev pub RefusesConfirm : Standing → EventError → Type 0

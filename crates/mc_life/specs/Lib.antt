@@ -1,3 +1,4 @@
 pub mod Device
 pub mod Script
 pub mod Replay
+pub mod inner

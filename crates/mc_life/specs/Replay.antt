@@ -1,15 +1,16 @@
 -- What each event of a script leads to, and the lines that are printed of it.
 use Rattle.std.specs.Io.KnownBytes.{Appends, Keeps}
 use Rattle.std.specs.Prelude.{Bool, List, None, Option, Some, [], codes, decimal, false, length, option_map, true, ℕ, ⊤, ◌++◌, ◌+◌, ◌∷◌, ◌≡◌, ◌⊎◌}
-use Rattle.mc_boot.specs.{Life.{DeviceState, Event as Happening, confirm, cut, device_state, mark, store}, Outcome.{Report, result_text}}
+use Rattle.mc_boot.specs.{Life.{DeviceState, confirm, cut, device_state, mark, store}, Outcome.{Report, result_text}}
 use Rattle.mc_boot.specs.{Plan.{PowerOn, identity_of, powered}, Restart.{filled}}
 use Rattle.mc_flash.specs.{Flash.{erased}, declared.op.Op.{Op}, declared.op.Op.TheVariants.{Erase}, declared.op.Slot.TheVariants.{Secondary}}
 use Rattle.mc_image.specs.{Valid.{Identity}, VersionText.{version_line}}
-use Rattle.mc_life.specs.Device.{AllowsDownload, AllowsWrite, EndsAs, Goes, IsNew, RefusesConfirm, RefusesCuts, RefusesDownload, RefusesErase, RefusesMark, RefusesRequest, RefusesStore, RefusesWrite, Standing, asked, boot_ops, boots, cut_ops, loaded, wipes, with_part}
+use Rattle.mc_life.specs.Device.{AllowsDownload, AllowsWrite, EndsAs, Goes, IsNew, IsTornTo, RefusesConfirm, RefusesCuts, RefusesDownload, RefusesErase, RefusesMark, RefusesRequest, RefusesStore, RefusesTear, RefusesWrite, Standing, asked, boot_ops, boots, cut_ops, loaded, wipes, with_part}
 use Rattle.mc_life.specs.{Script.{Either, Named, States, file_of, held, is_skipped, sayings}, declared.error.EventError.{EventError}}
 use Rattle.mc_life.specs.{declared.event.Event.{Event}, declared.life.LifeError.{LifeError}, declared.life.LineError.{LineError}, declared.state.State.{State}}
 use Rattle.mc_output.specs.Text.{AppendsPrefix}
 use Rattle.mc_start.specs.Start.{Started}
+use Rattle.mc_tear.specs.declared.reading.Reading.{Reading}
 use Rattle.mc_trailer.specs.Tables.{type_text}
 use Rattle.mc_life.specs.declared.error.EventError.TheVariants as errors
 use Rattle.mc_life.specs.declared.event.Event.TheVariants as events
@@ -47,29 +48,22 @@ event_line number words outcome state = (decimal number ++ codes " ") ++ (words 
 
 -- What an event of a script is, where it can happen, and what is refused of it.
 
--- The events of the law that it is, from where a device stands.
-abbrev pub happenings : List Named → Standing → Event → List Happening
-happenings files d (events.Download file count) = store (filled d.seen.geometry Secondary (loaded (held (file_of files file.now)) count)) ∷ []
-happenings files d (events.Request request) = store (asked d.seen.geometry request d.seen.content.secondary) ∷ []
-happenings files d (events.Store file) = store (held (file_of files file.now)) ∷ []
-happenings files d (events.Write file from count) = store (with_part d.seen.geometry (held (file_of files file.now)) from count d.seen.content.secondary) ∷ []
-happenings files d (events.Erase sector) = store (erased d.seen.geometry.sector sector d.seen.content.secondary) ∷ []
-happenings files d events.Confirm = confirm ∷ []
-happenings files d (events.Mark bytes) = mark bytes ∷ []
-happenings files d (events.Boot cuts) = boots cuts
-happenings files d (events.Cut count) = cut count ∷ []
-
--- The operations that happen, those that erase nothing left out where it is no boot.
-abbrev pub operations : Standing → Event → List Op
-operations d (events.Download file count) = wipes d.seen.geometry.secondary
-operations d (events.Request request) = []
-operations d (events.Store file) = wipes d.seen.geometry.secondary
-operations d (events.Write file from count) = []
-operations d (events.Erase sector) = Erase Secondary sector ∷ []
-operations d events.Confirm = []
-operations d (events.Mark bytes) = []
-operations d (events.Boot cuts) = boot_ops (powered d.rules d.seen) cuts
-operations d (events.Cut count) = cut_ops (powered d.rules d.seen) (count ∷ [])
+-- It leads from where a device stands to e: the events of the law that it is, and the operations that happen, of which those that erase nothing are
+-- left out where it is no boot.
+abbrev pub LeadsTo : List Named → Event → Standing → Standing → Type 0
+LeadsTo files (events.Download file count) d e =
+    Goes d (store (filled d.seen.geometry Secondary (loaded (held (file_of files file.now)) count)) ∷ []) (wipes d.seen.geometry.secondary) e
+LeadsTo files (events.Request request) d e = Goes d (store (asked d.seen.geometry request d.seen.content.secondary) ∷ []) [] e
+LeadsTo files (events.Store file) d e = Goes d (store (held (file_of files file.now)) ∷ []) (wipes d.seen.geometry.secondary) e
+LeadsTo files (events.Write file from count) d e =
+    Goes d (store (with_part d.seen.geometry (held (file_of files file.now)) from count d.seen.content.secondary) ∷ []) [] e
+LeadsTo files (events.Erase sector) d e =
+    Goes d (store (erased d.seen.geometry.sector sector d.seen.content.secondary) ∷ []) (Erase Secondary sector ∷ []) e
+LeadsTo files events.Confirm d e = Goes d (confirm ∷ []) [] e
+LeadsTo files (events.Mark bytes) d e = Goes d (mark bytes ∷ []) [] e
+LeadsTo files (events.Boot cuts) d e = Goes d (boots cuts) (boot_ops (powered d.rules d.seen) cuts) e
+LeadsTo files (events.Cut count) d e = Goes d (cut count ∷ []) (cut_ops (powered d.rules d.seen) (count ∷ [])) e
+LeadsTo files (events.Tear count reading) d e = IsTornTo d count reading e
 
 -- A boot ends with an outcome, and no other event does.
 abbrev pub EndsBoot : PowerOn → List ℕ → Option Report → Type 0
@@ -86,6 +80,7 @@ Ends d events.Confirm o = o ≡ None
 Ends d (events.Mark bytes) o = o ≡ None
 Ends d (events.Boot cuts) o = EndsBoot (powered d.rules d.seen) cuts o
 Ends d (events.Cut count) o = o ≡ None
+Ends d (events.Tear count reading) o = o ≡ None
 
 -- A file that is not there, or what is refused of what it holds.
 abbrev pub WithFile : Option (List ℕ) → (List ℕ → EventError → Type 0) → EventError → Type 0
@@ -104,6 +99,7 @@ RefusesEvent files d events.Confirm why = RefusesConfirm d why
 RefusesEvent files d (events.Mark bytes) why = RefusesMark d bytes why
 RefusesEvent files d (events.Boot cuts) why = RefusesCuts (powered d.rules d.seen) cuts why
 RefusesEvent files d (events.Cut count) why = RefusesCuts (powered d.rules d.seen) (count ∷ []) why
+RefusesEvent files d (events.Tear count reading) why = RefusesTear (powered d.rules d.seen) count reading why
 
 -- What allows it to happen, where it is a download or a write.
 abbrev pub AllowsEvent : List Named → Standing → Event → Type 0
@@ -118,7 +114,7 @@ pub record Happens (files : List Named) (line : List ℕ) (d e : Standing) (outc
   pub event : Event
   pub states : States line event
   pub allowed : AllowsEvent files d event
-  pub goes : Goes d (happenings files d event) (operations d event) e
+  pub leads : LeadsTo files event d e
   pub ends : Ends d event outcome
 
 -- What is printed of it.
@@ -132,6 +128,11 @@ Replays files number d (line ∷ more) count e text =
     Either (is_skipped line) (Replays files number d more count e text)
     ((k : Standing) × (o : Option Report) × (rest : List ℕ) × (others : ℕ) × Happens files line d k o × Replays files (number + 1) k more others e rest
     × (count ≡ others + 1) × (text ≡ line_text number line o k ++ rest))
+
+-- No line states that power is lost within an operation.
+abbrev pub HasNoTear : List (List ℕ) → Type 0
+HasNoTear [] = ⊤
+HasNoTear (line ∷ lines) = ((count : ℕ) (r : Reading) → States line (events.Tear count r) → ⊥) × HasNoTear lines
 
 -- A line is refused: it states no event, or one that can't happen.
 abbrev pub RefusesLine : List Named → List ℕ → Standing → EventError → Type 0

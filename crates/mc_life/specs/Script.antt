@@ -6,6 +6,7 @@ use Rattle.mc_imgtool.specs.Engines.{RefusesReading}
 use Rattle.mc_life.specs.{declared.error.ScriptError.{ScriptError}, declared.event.Event.{Event}, declared.request.Request.{Request}}
 use Rattle.mc_output.specs.facts.Parting.{Lacks}
 use Rattle.mc_start.specs.Start.{IsSchedule, schedule_text}
+use Rattle.mc_tear.specs.{Readings.{reading_of, reading_text}, declared.reading.Reading.{Reading}}
 use Rattle.mc_life.specs.declared.error.ScriptError.TheVariants as refusals
 use Rattle.mc_life.specs.declared.event.Event.TheVariants as events
 use Rattle.mc_life.specs.declared.request.Request.TheVariants as requests
@@ -56,6 +57,7 @@ name_of events.Confirm = codes "confirm"
 name_of (events.Mark bytes) = codes "mark"
 name_of (events.Boot cuts) = codes "boot"
 name_of (events.Cut count) = codes "cut"
+name_of (events.Tear count reading) = codes "tear"
 
 -- Words, one space between them: the first, and what stands after it, if something does.
 abbrev pub line_of : List ℕ → Option (List ℕ) → List ℕ
@@ -81,6 +83,15 @@ pub record WritesBoth (m n : ℕ) (text : List ℕ) : Type 0 where
   pub text_is : text ≡ first ++ 32 ∷ second
   pub first_is : Writes m first
   pub second_is : Writes n second
+
+-- A number, and a reading of a torn operation.
+pub record WritesTear (n : ℕ) (r : Reading) (text : List ℕ) : Type 0 where
+  pub first : List ℕ
+  pub text_is : text ≡ first ++ 32 ∷ reading_text r
+  pub first_is : Writes n first
+  pub number : ℕ
+  pub few : number < 192
+  pub reading_is : r ≡ reading_of number
 
 -- A name that needs no double quotes: it holds no space, and begins with none of them.
 abbrev pub IsBare : List ℕ → Type 0
@@ -121,6 +132,7 @@ Follows events.Confirm rest = rest ≡ None
 Follows (events.Mark bytes) rest = (length bytes ≤ 8) × IsBytes bytes × (rest ≡ Some (encode_lower bytes))
 Follows (events.Boot cuts) rest = IsSchedule cuts × (rest ≡ cuts_text cuts)
 Follows (events.Cut count) rest = IsSomeAnd rest (Writes count)
+Follows (events.Tear count reading) rest = IsSomeAnd rest (WritesTear count reading)
 
 -- A text states an event: its first word, and what may stand after that.
 pub record States (text : List ℕ) (e : Event) : Type 0 where

@@ -6,13 +6,17 @@ ghost use Rattle.mc_boot.specs.Boot.{progress, to_come, IsBootOf, HasCome};
 ghost use Rattle.mc_boot.specs.Life.{is_boot};
 ghost use Rattle.mc_boot.specs.Outcome.{outcome_of, shown, after, left_by, ops_of};
 ghost use Rattle.mc_boot.specs.Plan.{plan, powered};
-ghost use Rattle.mc_life.specs.Device.{Cuts, cut_ops, RefusesCuts, worn};
+ghost use Rattle.mc_life.specs.Device.{Cuts, LosesSo, RefusesCuts, RefusesTear, Stops, cut_ops, worn};
+ghost use Rattle.mc_tear.specs.inner.Room.{Applies};
 
 use crate::error::EventError;
+use crate::tear::torn;
 use crate::wear::Wear;
 use mc_boot::{Boot, BootResult, KnownImage, Outcome};
 use mc_flash::{Flash, FlashError, Op, Slot, blank};
+use mc_tear::{Reading, readings_law};
 use mc_trailer::Rules;
+use std::alloc::Global;
 
 /// Whether an image runs after a boot that ends so.
 pub fn starts(ended: BootResult) -> bool
@@ -34,11 +38,11 @@ fn is_free<F: Flash>(flash: &F, slot: Slot, at: u32, len: u32) -> bool
 
 // Whether the flash would do an operation.
 #[tactic(auto, unfolding(mc_flash::specs::Flash::apply))]
-fn is_defined<F: Flash>(flash: &F, op: Op) -> bool
-    requires { CanTry (F.seen flash.now).geometry op }
-    ensures { result ≡ is_some (apply (F.seen flash.now).geometry op (F.seen flash.now).content) }
+fn is_defined<F: Flash>(flash: &F, op: &Op) -> bool
+    requires { CanTry (F.seen flash.now).geometry op.now }
+    ensures { let f = F.seen flash.now in result ≡ is_some (apply f.geometry op.now f.content) }
 {
-    match op {
+    match *op {
         Op::Erase(_, _) => true,
         Op::Program(slot, at, bytes) => is_free(flash, slot, at, bytes.bytes().len() as u32),
         Op::Copy(from, _, to, offset, len) => {
@@ -83,6 +87,39 @@ fn run<F: Flash>(
     Ok(boot)
 }
 
+// Runs a boot from power-on until so many operations happened. The operation before which it stands; none where the boot makes no more
+// than that: then it has come to its end.
+fn go_to<F: Flash>(
+    flash: &mut F,
+    wear: &mut Wear,
+    rules: Rules,
+    count: u32,
+    known: &[Option<KnownImage<'_>>],
+) -> Result<Option<Op>, FlashError>
+    ensures comes { IfOk result (Stops (powered rules (F.seen flash.old)) count
+        (F.seen flash.new).content) }
+    ensures applies { IfOk result (λ next. IfSome next (λ op. Applies op (F.seen flash.new))) }
+    ensures layout { (F.seen flash.new).geometry ≡ (F.seen flash.old).geometry }
+    ensures wear { IfOk result (λ next. IfSome next (λ _. wear.new ≡ worn wear.old
+        (take count (ops_of (powered rules (F.seen flash.old)))))) }
+    ensures err { IfErr result (λ e. e ≡ FlashError.Memory) }
+{
+    let boot = run(flash, wear, rules, Some(count), known)?;
+    if boot.count() < count {
+        return Ok(None);
+    }
+    // Reading the slots gives the prover their sizes.
+    let _primary = flash.read(Slot::Primary);
+    let _secondary = flash.read(Slot::Secondary);
+    let Some(op) = boot.peek() else {
+        return Ok(None);
+    };
+    if !is_defined(flash, &op) {
+        return Ok(None);
+    }
+    Ok(Some(op))
+}
+
 /// Runs a boot from power-on, and cuts the power after so many operations. False where it makes no more than that: then it has
 /// come to its end.
 ///
@@ -103,14 +140,43 @@ pub fn cut<F: Flash>(
         (take count (ops_of (powered rules (F.seen flash.old))))) }
     ensures err { IfErr result (λ e. e ≡ FlashError.Memory) }
 {
-    let boot = run(flash, wear, rules, Some(count), known)?;
-    if boot.count() < count {
-        return Ok(false);
-    }
-    match boot.peek() {
-        Some(op) => Ok(is_defined(flash, op)),
-        None => Ok(false),
-    }
+    Ok(go_to(flash, wear, rules, count, known)?.is_some())
+}
+
+/// Runs a boot from power-on, and loses power within the operation of that number, of which the next boot reads this.
+///
+/// # Errors
+///
+/// `CannotOccur` where the boot makes no more than that; `NoCase` where the operation leaves nothing that is read so; `Memory`.
+pub fn tear<F: Flash>(
+    alloc: Global,
+    flash: &mut F,
+    wear: &mut Wear,
+    rules: Rules,
+    count: u32,
+    reading: &Reading,
+    known: &[Option<KnownImage<'_>>],
+) -> Result<(), EventError>
+    ensures loses { OnOk result (LosesSo (powered rules (F.seen flash.old)) count reading.now
+        (F.seen flash.new).content) }
+    ensures layout { OnOk result ((F.seen flash.new).geometry ≡ (F.seen flash.old).geometry) }
+    ensures wear { OnOk result (wear.new ≡ worn wear.old
+        (take (count + 1) (ops_of (powered rules (F.seen flash.old))))) }
+    ensures refused { IfErr result
+        (RefusesTear (powered rules (F.seen flash.old)) count reading.now) }
+{
+    readings_law();
+    let Some(op) = go_to(flash, wear, rules, count, known)? else {
+        return Err(EventError::CannotOccur(0));
+    };
+    // Reading a field gives the prover that it is a layout.
+    let _unit = flash.layout().unit();
+    let Some(torn) = torn(alloc, flash, rules.grain, &op, reading)? else {
+        return Err(EventError::NoCase);
+    };
+    *flash = torn;
+    wear.note(op);
+    Ok(())
 }
 
 /// Runs a boot from power-on to its end.

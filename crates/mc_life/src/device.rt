@@ -9,7 +9,7 @@ ghost use Rattle.mc_trailer.specs.Trailer.{trailer_of};
 ghost use Rattle.mc_trailer.specs.Tables.{is_set};
 ghost use Rattle.mc_flash.specs.declared.op.Op.TheVariants.{Erase};
 ghost use Rattle.mc_flash.specs.declared.op.Slot.TheVariants.{Primary, Secondary};
-ghost use Rattle.mc_life.specs.Device.{EndsAs, boot_ops, cut_ops, RefusesConfirm, RefusesCuts, RefusesDownload, RefusesErase, RefusesMark, RefusesRequest, RefusesStore, RefusesWrite, AllowsDownload, AllowsWrite, Goes, IsNew, asked, boots, loaded, wipes, with_part};
+ghost use Rattle.mc_life.specs.Device.{EndsAs, IsTornTo, RefusesTear, boot_ops, cut_ops, RefusesConfirm, RefusesCuts, RefusesDownload, RefusesErase, RefusesMark, RefusesRequest, RefusesStore, RefusesWrite, AllowsDownload, AllowsWrite, Goes, IsNew, asked, boots, loaded, wipes, with_part};
 
 use crate::error::EventError;
 use crate::request::Request;
@@ -18,6 +18,7 @@ use crate::{boots, work};
 use mc_boot::{KnownImage, Outcome};
 use mc_flash::{Flash, Slot};
 use mc_start::Start;
+use mc_tear::Reading;
 use mc_trailer::{Flag, Rules, Trailer};
 use std::alloc::Global;
 use std::marker::Model;
@@ -200,6 +201,28 @@ impl<F: Flash> Device<F> {
             (RefusesCuts (powered self.old.rules self.old.seen) (count ∷ [])) }
     {
         boots::cut_all(&mut self.flash, &mut self.wear, self.rules, &[count], known)?;
+        self.runs = false;
+        Ok(())
+    }
+
+    /// The power comes on, and is lost within the operation of that number, of which the next boot reads this. An erase that is torn wears its
+    /// sector as a whole one does.
+    ///
+    /// # Errors
+    ///
+    /// `CannotOccur` where the boot makes no more than that; `NoCase` where the operation leaves nothing that is read so; `Memory`.
+    pub fn tear(
+        &mut self,
+        alloc: Global,
+        count: u32,
+        reading: &Reading,
+        known: &[Option<KnownImage<'_>>],
+    ) -> Result<(), EventError>
+        ensures torn { OnOk result (IsTornTo self.old count reading.now self.new) }
+        ensures refused { IfErr result
+            (RefusesTear (powered self.old.rules self.old.seen) count reading.now) }
+    {
+        boots::tear(alloc, &mut self.flash, &mut self.wear, self.rules, count, reading, known)?;
         self.runs = false;
         Ok(())
     }

@@ -37,6 +37,9 @@ pub enum EventError {
     /// What is written does not begin with a unit.
     #[error("E90 NotAligned")]
     NotAligned,
+    /// The torn operation cannot be read so.
+    #[error("E93 NoCase")]
+    NoCase,
     /// An allocation failed, or the room of a flash that counts is full.
     #[error("E52 Memory")]
     Memory,

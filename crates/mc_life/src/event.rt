@@ -4,10 +4,11 @@ ghost use Rattle.hex.specs.Hex.{IsBytes, encode_lower};
 ghost use Rattle.mc_life.specs.Script.{ReadsEvent, Says, SaysNone, file_named};
 
 use crate::request::Request;
-use crate::words::{both_numbers, name_in, number_of};
+use crate::words::{both_numbers, name_in, number_and_reading, number_of};
 use mc_flash::Bytes16;
 use mc_output::Line;
 use mc_start::Schedule;
+use mc_tear::Reading;
 
 /// What can happen to a device.
 #[derive(Clone, Copy, Debug)]
@@ -31,6 +32,8 @@ pub enum Event<'a> {
     Boot(Schedule),
     /// The power comes on, and is lost after so many operations.
     Cut(u32),
+    /// The power comes on, and is lost within the operation of that number, of which the next boot reads this.
+    Tear(u32, Reading),
 }
 
 // Reads as many bytes as there is room for from lower-case hexadecimal digits. False for every other text.
@@ -178,6 +181,17 @@ fn cut(rest: &str) -> Option<Event<'_>>
     }
 }
 
+// Power that is lost within an operation.
+fn tear(rest: &str) -> Option<Event<'_>>
+    ensures { MatchOption result (SaysNone (codes "tear") (Some rest.now))
+        (Says (codes "tear") (Some rest.now)) }
+{
+    match number_and_reading(rest) {
+        Some((count, reading)) => Some(Event::Tear(count, reading)),
+        None => None,
+    }
+}
+
 // What one word states.
 fn of_word<'a>(name: &'a str) -> Option<Event<'a>>
     ensures { MatchOption result (SaysNone name.now None) (Says name.now None) }
@@ -203,6 +217,7 @@ fn of_words<'a>(name: &'a str, rest: &'a str) -> Option<Event<'a>>
         "mark" => mark(rest),
         "boot" => boot(rest),
         "cut" => cut(rest),
+        "tear" => tear(rest),
         _ => None,
     }
 }

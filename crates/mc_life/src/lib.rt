@@ -11,6 +11,7 @@ mod line;
 mod request;
 mod script;
 mod state;
+mod tear;
 mod wear;
 mod wear_text;
 mod words;

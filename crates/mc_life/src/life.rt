@@ -3,10 +3,12 @@ ghost use Rattle.std.specs.Prelude.{◌≡◌, ◌<◌, Option, option_map, IfEr
 ghost use Rattle.mc_boot.specs.Life.{IsDelivered, LivesOn};
 ghost use Rattle.mc_boot.specs.Outcome.{shown, Report};
 ghost use Rattle.mc_flash.specs.Flash.{Content};
-ghost use Rattle.mc_life.specs.Replay.{AllowsEvent, Ends, RefusesEvent, happenings, operations, FailsLife, FailsLine, Happens, IsReplayed, RefusesLine, life_error, line_text};
-ghost use Rattle.mc_life.specs.Script.{file_of, is_skipped};
+ghost use Rattle.mc_life.specs.Replay.{AllowsEvent, Ends, HasNoTear, LeadsTo, RefusesEvent, FailsLife, FailsLine, Happens, IsReplayed, RefusesLine, life_error, line_text};
+ghost use Rattle.mc_life.specs.Script.{file_of, is_skipped, sayings};
 ghost use Rattle.std.specs.Io.KnownBytes.{Appends};
-ghost use Rattle.mc_life.specs.Device.{Goes, moment};
+ghost use Rattle.mc_life.specs.Device.{moment};
+ghost use Rattle.mc_boot.specs.Torn.{EndsTorn, roughly};
+ghost use Rattle.mc_trailer.specs.declared.tables.Profile.TheVariants as profiles;
 
 use crate::device::Device;
 use crate::error::EventError;
@@ -14,7 +16,7 @@ use crate::event::Event;
 use crate::files::{File, find, known_at};
 use crate::script::{Script, next_line};
 use crate::state::{state_of, write_event};
-use mc_boot::{KnownImage, Outcome, image_in, life_law};
+use mc_boot::{KnownImage, Outcome, image_in, life_law, torn_law};
 use mc_flash::Flash;
 use mc_output::WriteFailed;
 use mc_start::Start;
@@ -66,8 +68,7 @@ fn happen<F: Flash>(
     files: &[File],
     known: &[Option<KnownImage<'_>>],
 ) -> Result<Option<Outcome>, EventError>
-    ensures goes { OnOk result (Goes device.old (happenings files.now device.old event.now)
-        (operations device.old event.now) device.new) }
+    ensures leads { OnOk result (LeadsTo files.now event.now device.old device.new) }
     ensures allowed { OnOk result (AllowsEvent files.now device.old event.now) }
     ensures ends { IfOk result (λ o. Ends device.old event.now (option_map shown o)) }
     ensures refused { IfErr result (RefusesEvent files.now device.old event.now) }
@@ -84,6 +85,7 @@ fn happen<F: Flash>(
         Event::Mark(bytes) => device.mark(alloc, bytes.bytes())?,
         Event::Boot(cuts) => return Ok(Some(device.boot(cuts.cuts(), known)?)),
         Event::Cut(count) => device.cut(*count, known)?,
+        Event::Tear(count, reading) => device.tear(alloc, *count, reading, known)?,
     }
     Ok(None)
 }
@@ -210,11 +212,17 @@ pub fn replay_life<F: Flash, W: Write>(
         (W.contents writer.new)) }
     ensures failed { IfErr result (FailsLife files.now start.now script.now
         (W.contents writer.old) (W.contents writer.new)) }
-    // Whatever the script: a device that can be delivered lives on, and its next boot ends well.
-    ensures lives { IfOk result (λ d. IsDelivered start.now.geometry start.now.content
-        → (rested z : Content) × LivesOn start.now.rules start.now.geometry (moment d rested) z) }
+    // Whatever the script: a device that can be delivered lives on, and its next boot ends well, where no operation is torn,
+    ensures lives { let s = start.now in IfOk result (λ d. IsDelivered s.geometry s.content
+        → HasNoTear (sayings script.now)
+        → (rested z : Content) × LivesOn s.rules s.geometry (moment d rested) z) }
+    // and by the third profile where some are, too.
+    ensures torn { let s = start.now in IfOk result (λ d. IsDelivered s.geometry s.content
+        → s.rules.profile ≡ profiles.Three
+        → (rested z : Content) × EndsTorn roughly s.rules s.geometry rested d.seen.content z) }
 {
     life_law();
+    torn_law();
     // Reading a field gives the prover that it is a layout.
     let _layout = start.layout();
     let known = known_images(start, files);

@@ -1,7 +1,10 @@
 //! The words after the first of an event's text: names of files, and numbers.
 ghost use Rattle.std.specs.Prelude.{◌≡◌, ℕ, ◌<◌, ◌≤◌, ◌^◌, List, ◌∷◌, Option, length, decimal, MatchOption, option_map};
 ghost use Rattle.std.specs.Str.Parse.{IsNumeral, digits_value};
-ghost use Rattle.mc_life.specs.Script.{BeginsWith, Writes, WritesBoth};
+ghost use Rattle.mc_life.specs.Script.{BeginsWith, Writes, WritesBoth, WritesTear};
+ghost use Rattle.mc_tear.specs.declared.reading.Reading.{Reading as TornReading};
+
+use mc_tear::Reading;
 
 // The number that a text writes in decimal, without leading zeros.
 fn decimal_number(text: &str) -> Option<u32>
@@ -50,6 +53,20 @@ pub fn both_numbers(text: &str) -> Option<(u32, u32)>
     };
     match (number_of(first), number_of(second)) {
         (Some(first), Some(second)) => Some((first, second)),
+        _ => None,
+    }
+}
+
+/// A number and a reading of a torn operation, with a space between them.
+pub fn number_and_reading(text: &str) -> Option<(u32, Reading)>
+    ensures { MatchOption result ((n : ℕ) (r : TornReading) → WritesTear n r text.now → ⊥)
+        (λ p. WritesTear p.0 p.1 text.now) }
+{
+    let Some((first, second)) = text.split_once(' ') else {
+        return None;
+    };
+    match (number_of(first), Reading::read(second)) {
+        (Some(number), Some(reading)) => Some((number, reading)),
         _ => None,
     }
 }

@@ -9,4 +9,4 @@ mod torn;
 pub use law::readings_law;
 pub use named::{Fields, is_case};
 pub use reading::{Entry, Reading};
-pub use torn::{Erasing, is_there, put_torn, slot_of};
+pub use torn::{Erasing, is_there, put_torn, slot_of, written_len};

@@ -754,7 +754,8 @@ The number of the operation; what the next boot reads where it may have changed 
 boot ends, as in a row of explore; and whether the flash that it leaves says a swap is under way
 (busy): where no boot goes on with it, the next download, which erases the secondary, may leave the
 device without an image. `data`: no field of a trailer changes; entry: a step of the swap is noted. Whatever
-bytes the operation leaves, the next boot reads one of these cases, or what a cut leaves.
+bytes the operation leaves, the next boot reads of the trailers' fields what one of these cases says, or
+what a cut leaves.
 With --at, --reading and --out the flash of that case is written, from which every command goes on.
 Right is as for census, and not busy.
 Example:
@@ -841,6 +842,7 @@ const AFTER_LIFE: &str = "\
 Events, a line each; blank lines, and what comes behind a #, tell none. At the start the power is off:
   boot [CUTS]              power-on, cut as a schedule says, and then left alone
   cut N                    power-on, cut after N operations
+  tear N READING           power-on, lost within operation N, of which the next boot reads this: see tears --all
 While an image runs:
   download FILE [BYTES]    it erases the secondary and writes the file, or stops after so many bytes
   write FILE FROM COUNT    it writes so many bytes of the file from there on where they belong, and erases nothing

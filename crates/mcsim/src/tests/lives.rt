@@ -17,8 +17,9 @@ struct LifeSession {
 }
 
 /// An upgrade that is cut on its way and then stopped by half a download; the trial ends with a torn confirmation. A revert that
-/// is forgotten and comes back. How often sectors are erased by a download and a swap: those of the table in docs/FORMAT.md.
-static LIVES: [LifeSession; 4] = [
+/// is forgotten and comes back. An upgrade within an erase of which power is lost, and a download that begins then, by the first profile and the third; a test of which a torn erase makes an upgrade
+/// for good. How often sectors are erased by a download and a swap: those of the table in docs/FORMAT.md.
+static LIVES: [LifeSession; 7] = [
     LifeSession {
         line: "life WORKED --image first",
         script: "\
@@ -42,6 +43,50 @@ confirm
 6 boot boot fail 0 2.0.0+0/80 trial none fail
 7 mark 00 2.0.0+0/80 settled none none
 8 confirm 2.0.0+0/80 settled none none
+",
+    },
+    LifeSession {
+        line: "life WORKED --image first",
+        script: "\
+boot
+download second
+request perm
+tear 5 magic=good,image-ok=bad
+boot
+erase 0
+erase 2
+boot",
+        want: "\
+1 boot boot none 0 1.0.0+0/80 settled none none
+2 download second 1.0.0+0/80 settled 2.0.0+0/80 none
+3 request perm 1.0.0+0/80 settled 2.0.0+0/80 perm
+4 tear 5 magic=good,image-ok=bad 1.0.0+0/80 settled 2.0.0+0/80 none
+5 boot boot none 0 1.0.0+0/80 settled 2.0.0+0/80 none
+6 erase 0 1.0.0+0/80 settled none none
+7 erase 2 1.0.0+0/80 settled none perm
+8 boot none perm 14 none settled 1.0.0+0/80 none
+",
+    },
+    LifeSession {
+        line: "life WORKED --image first --profile 3",
+        script: "boot\ndownload second\nrequest perm\ntear 0x5 magic=good,image-ok=bad\nboot",
+        want: "\
+1 boot boot none 0 1.0.0+0/80 settled none none
+2 download second 1.0.0+0/80 settled 2.0.0+0/80 none
+3 request perm 1.0.0+0/80 settled 2.0.0+0/80 perm
+4 tear 0x5 magic=good,image-ok=bad 1.0.0+0/80 settled 2.0.0+0/80 perm
+5 boot boot perm 14 2.0.0+0/80 settled 1.0.0+0/80 none
+",
+    },
+    LifeSession {
+        line: "life WORKED --image first",
+        script: "boot\ndownload second\nrequest test\ntear 4 magic=good,image-ok=set\nboot",
+        want: "\
+1 boot boot none 0 1.0.0+0/80 settled none none
+2 download second 1.0.0+0/80 settled 2.0.0+0/80 none
+3 request test 1.0.0+0/80 settled 2.0.0+0/80 test
+4 tear 4 magic=good,image-ok=set 1.0.0+0/80 settled 2.0.0+0/80 perm
+5 boot boot perm 19 2.0.0+0/80 settled 1.0.0+0/80 none
 ",
     },
     LifeSession {
@@ -85,7 +130,27 @@ wear secondary 2 0 5
 ];
 
 /// Events that can't happen. What comes before them is printed.
-static REFUSED: [LifeSession; 20] = [
+static REFUSED: [LifeSession; 24] = [
+    LifeSession {
+        line: "life WORKED --image first",
+        script: "boot\ntear 0 data",
+        want: "1 boot boot none 0 1.0.0+0/80 settled none none\n! mcsim: E53 CannotOccur at 0, event 2, line 2\nexit 1\n",
+    },
+    LifeSession {
+        line: "life WORKED --image first",
+        script: "boot\ndownload second\nrequest perm\ntear 5 data",
+        want: "1 boot boot none 0 1.0.0+0/80 settled none none\n2 download second 1.0.0+0/80 settled 2.0.0+0/80 none\n3 request perm 1.0.0+0/80 settled 2.0.0+0/80 perm\n! mcsim: E93 NoCase, event 4, line 4\nexit 1\n",
+    },
+    LifeSession {
+        line: "life WORKED --image first",
+        script: "tear 5",
+        want: "! mcsim: E78 EventSyntax, event 1, line 1\nexit 1\n",
+    },
+    LifeSession {
+        line: "life WORKED --image first",
+        script: "tear 5 image-ok=bad,magic=good",
+        want: "! mcsim: E78 EventSyntax, event 1, line 1\nexit 1\n",
+    },
     LifeSession {
         line: "life WORKED --image first",
         script: "\n# off\nerase 0\n",

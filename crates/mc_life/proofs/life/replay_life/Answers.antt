@@ -1,5 +1,5 @@
 use Rattle.std.proofs.Common.{◌≡◌, None, Some, sym, ◌∙◌}
-use Rattle.mc_life.proofs.ReplayProof.{IsAt, begins, ends, lives_on, fails, skips, happened}
+use Rattle.mc_life.proofs.ReplayProof.{IsAt, begins, ends, fails, happened, lives_on, skips, torn_on}
 use Rattle.mc_life.proofs.life.replay_life.Goals as goal
 use Rattle.mc_life.proofs.life.replay_life.Goals.{then-not-is_skipped+in-Ok-replay_line, else-not-is_skipped}
 
@@ -37,3 +37,11 @@ returns-clause-lives g c =
     let here : IsAt c.args.files.now c.args.start.now c.args.script.now (contents c.args.writer.now) (contents c.lines.writer) None c.lines.number c.lines.line_number c.lines.device =
     rw none at c.lines.invariant in
     lives_on _ _ _ _ _ _ (ends _ _ _ _ _ _ _ _ here) c.life_law.ensures.life c.layout-layout.ensures.valid
+
+pub returns-clause-torn : goal.returns-clause-torn
+returns-clause-torn g c =
+    let contents = g.W.Write.contents in
+    let none : c.lines.rest ≡ None = c.in_default-rest.is in
+    let here : IsAt c.args.files.now c.args.start.now c.args.script.now (contents c.args.writer.now) (contents c.lines.writer) None c.lines.number c.lines.line_number c.lines.device =
+    rw none at c.lines.invariant in
+    torn_on _ _ _ _ _ _ (ends _ _ _ _ _ _ _ _ here) c.torn_law.ensures.life c.layout-layout.ensures.valid

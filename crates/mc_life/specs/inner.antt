@@ -1,0 +1,2 @@
+-- States of the code's own. No public contract needs them to be believed.
+pub mod Tearing
