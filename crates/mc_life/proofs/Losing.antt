@@ -1,15 +1,15 @@
 -- Power that is lost within an operation of a boot, and what it leaves.
-use Rattle.std.proofs.{Common.{ap, arith, inl, inr, subst, sym, ◌∙◌}, lemmas.Bool.Decides.{nat_tests}, Math.Nat.{mul-le-mul_right}, lemmas.List.{length-replicate}, lemmas.Option.{slice_get_within}}
-use Rattle.std.specs.Prelude.{Bool, List, None, Option, Some, [], drop, false, if◌then◌else◌, is_some, length, refl, replicate, slice_get, take, true, ℕ, ◌*◌, ◌++◌, ◌+◌, ◌∷◌, ◌≡◌, ◌≤◌}
+use Rattle.std.proofs.{Common.{ap, arith, inl, inr, subst, sym, ◌∙◌}, Math.Nat.{mul-le-mul_right}, lemmas.List.{length-replicate}}
+use Rattle.std.specs.Prelude.{Bool, List, None, Option, Some, [], drop, false, if◌then◌else◌, is_some, length, refl, slice_get, take, true, ℕ, ◌*◌, ◌++◌, ◌+◌, ◌∷◌, ◌≡◌, ◌≤◌}
 use Rattle.mc_boot.proofs.{Courses.{drop_at_place, get_beyond, some_trailer}, Meets.{which_slot}}
 use Rattle.mc_boot.specs.{Boot.{HasCome, Progress}, Outcome.{at, cut_at, first_then, happening, ops_of}, Plan.{PowerOn, plan}, Torn.{IsKept, IsTorn, roughly}}
 use Rattle.mc_boot.specs.facts.Run.{come_at, come_count, come_prefix}
-use Rattle.mc_flash.specs.{Flash.{CanTry, Content, IsSized, apply, byte}, Geometry.{Geometry, IsLayout, greatest_sectors, trailer_sectors}, declared.op.Op.{Op}, declared.op.Op.TheVariants.{Copy, Erase, Program}}
-use Rattle.mc_flash.specs.{declared.flash.Grain.{Grain}, declared.op.Slot.{Slot}}
+use Rattle.mc_flash.specs.{Flash.{CanTry, Content, IsSized, apply, byte}, Geometry.{Geometry, IsLayout, greatest_sectors, trailer_sectors}, declared.op.Op.{Op}}
+use Rattle.mc_flash.specs.{declared.flash.Grain.{Grain}, declared.op.Op.TheVariants.{Copy, Erase, Program}, declared.op.Slot.{Slot}}
 use Rattle.mc_flash.specs.Usage.{Checkpoint, Counts as Counts', HasRoom, Loads, Seen, Usage, limits_for, most_operations, most_saved, no_counts}
 use Rattle.mc_flash.specs.declared.flash.Grain.TheVariants as grains
 use Rattle.mc_life.proofs.{Booting.{comes_next, take_next}, Worn.{worn_both}}
-use Rattle.mc_life.specs.Device.{ComesTo, Counts, Cuts, FailsAt, Stops, torn_so, worn}
+use Rattle.mc_life.specs.Device.{ComesTo, Counts, FailsAt, torn_so, worn}
 use Rattle.mc_life.specs.inner.Tearing.{Puts}
 use Rattle.mc_tear.proofs.Whole.{whole_is}
 use Rattle.mc_tear.specs.{Cases.{is_case, tearing_of, torn}, Laws.{CasesAreTorn}, inner.Room.{Applies, tear_counts}, declared.reading.Reading.{Reading}, declared.torn.Erasing.{Erasing}}
@@ -88,15 +88,6 @@ worn_to x count op w v u next so_far noted =
 -- It comes to none.
 pub no_operation : (x : PowerOn) (count : ℕ) → cut_at x count ≡ None → FailsAt x (count ∷ []) 0
 no_operation x count none = record { left = x.content; before = refl; cut = count; there = refl; fails = none }
-
--- A cut before it.
-pub cuts_there : (x : PowerOn) (count : ℕ) (t : Content) (o : Option Op) (b : Bool) → b ≡ is_some o → Stops x count t o → Cuts x count b t
-cuts_there x count t None true is none = absurd cc
-cuts_there x count t None false is none = none
-cuts_there x count t (Some op) false is comes = absurd cc
-cuts_there x count t (Some op) true is comes =
-    let early = slice_get_within (ops_of x) count op comes.next in
-    grind (arith, nat_tests, early, comes.reached)
 
 -- ---- what is torn so
 

@@ -3,7 +3,7 @@ use Rattle.std.specs.Io.KnownBytes.{Appends, Keeps}
 use Rattle.std.specs.Prelude.{Bool, List, None, Option, Some, [], codes, decimal, false, length, option_map, true, ℕ, ⊤, ◌++◌, ◌+◌, ◌∷◌, ◌≡◌, ◌⊎◌}
 use Rattle.mc_boot.specs.{Life.{DeviceState, confirm, cut, device_state, mark, store}, Outcome.{Report, result_text}}
 use Rattle.mc_boot.specs.{Plan.{PowerOn, identity_of, powered}, Restart.{filled}}
-use Rattle.mc_flash.specs.{Flash.{erased}, declared.op.Op.{Op}, declared.op.Op.TheVariants.{Erase}, declared.op.Slot.TheVariants.{Secondary}}
+use Rattle.mc_flash.specs.{Flash.{erased}, declared.op.Op.TheVariants.{Erase}, declared.op.Slot.TheVariants.{Secondary}}
 use Rattle.mc_image.specs.{Valid.{Identity}, VersionText.{version_line}}
 use Rattle.mc_life.specs.Device.{AllowsDownload, AllowsWrite, EndsAs, Goes, IsNew, IsTornTo, RefusesConfirm, RefusesCuts, RefusesDownload, RefusesErase, RefusesMark, RefusesRequest, RefusesStore, RefusesTear, RefusesWrite, Standing, asked, boot_ops, boots, cut_ops, loaded, wipes, with_part}
 use Rattle.mc_life.specs.{Script.{Either, Named, States, file_of, held, is_skipped, sayings}, declared.error.EventError.{EventError}}

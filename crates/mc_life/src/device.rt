@@ -222,7 +222,15 @@ impl<F: Flash> Device<F> {
         ensures refused { IfErr result
             (RefusesTear (powered self.old.rules self.old.seen) count reading.now) }
     {
-        boots::tear(alloc, &mut self.flash, &mut self.wear, self.rules, count, reading, known)?;
+        boots::tear(
+            alloc,
+            &mut self.flash,
+            &mut self.wear,
+            self.rules,
+            count,
+            reading,
+            known,
+        )?;
         self.runs = false;
         Ok(())
     }

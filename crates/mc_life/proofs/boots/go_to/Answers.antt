@@ -22,7 +22,8 @@ is_none (Some op) none = absurd (none op refl)
 pub returns-in_default-clause-comes : goal.returns-in_default-clause-comes
 returns-in_default-clause-comes g c =
     let e = c.in_ok-boot.ensures in
-    too_late _ _ _ e.come c.args.count (none_first (to_come c.in_ok-boot.boot) c.peek.result c.peek.ensures.first (ap (λ (o : Option Op). is_some o) (is_none c.peek.result c.in_default.not-Some))) e.below
+    let none = ap (λ (o : Option Op). is_some o) (is_none c.peek.result c.in_default.not-Some) in
+    too_late _ _ _ e.come c.args.count (none_first (to_come c.in_ok-boot.boot) c.peek.result c.peek.ensures.first none) e.below
 
 here : (g : Over) (c : In-Some g) → (progress c.in_ok-boot.boot).count ≡ c.args.count
 here g c = let enough = c.if-count.false in let e = c.in_ok-boot.ensures in omega (arith, enough, c.count.ensures, e.below)

@@ -1,7 +1,7 @@
 use Rattle.std.proofs.Common.{ap, sym, ◌≡◌, ◌∙◌}
 use Rattle.std.specs.Prelude.{Some, option_map}
 use Rattle.mc_boot.specs.Plan.{powered}
-use Rattle.mc_flash.specs.{Flash.{Content}, Geometry.{Geometry}}
+use Rattle.mc_flash.specs.{Geometry.{Geometry}}
 use Rattle.mc_life.proofs.Losing.{so_torn, worn_to}
 use Rattle.mc_life.specs.Device.{ComesTo, torn_so}
 use Rattle.mc_life.proofs.boots.tear.Given.{Over}
