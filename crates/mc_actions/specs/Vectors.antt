@@ -5,12 +5,19 @@ use Rattle.mc_options.specs.Numbers.{GivesNumber}
 use Rattle.mc_actions.specs.declared.vectors.Cuts.{Cuts}
 use Rattle.mc_actions.specs.declared.vectors.Cuts.TheVariants as cuts
 use Rattle.mc_options.specs.declared.numbers.NumberOption.TheVariants as numbers
+use Rattle.mc_tears.specs.{Losses.{AnyLosses}, declared.loss.Loss.{Loss}}
+use Rattle.mc_tears.specs.Losses as losses
 use Rattle.mc_vectors.specs.Cases.{AnyCuts, AtMost}
 
 -- The schedules of at most so many cuts, or all.
 abbrev pub IsAsked : Cuts → List ℕ → Type 0
 IsAsked (cuts.AtMost n) = AtMost n
 IsAsked cuts.Any = AnyCuts
+
+-- The same of losses.
+abbrev pub AreLossesAsked : Cuts → List Loss → Type 0
+AreLossesAsked (cuts.AtMost n) = losses.AtMost n
+AreLossesAsked cuts.Any = AnyLosses
 
 abbrev pub IsFew : Cuts → Type 0
 IsFew (cuts.AtMost n) = n ≤ 16

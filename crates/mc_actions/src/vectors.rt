@@ -1,4 +1,4 @@
-//! `vectors`: each distinct flash that power cuts leave, for a boot loader to be tried on.
+//! `vectors`: each distinct flash that power cuts leave, or all losses of power, for a boot loader to be tried on.
 ghost use Rattle.std.specs.Prelude.{◌≡◌, ◌<◌, IfOk, IsOk};
 ghost use Rattle.std.specs.Io.KnownBytes.{Appends};
 ghost use Rattle.clap.specs.Matches.{found_of};
@@ -6,14 +6,17 @@ ghost use Rattle.mc_start.specs.Start.{begun};
 ghost use Rattle.mc_actions.specs.Vectors.{GivesCuts, IsAsked, IsFew};
 ghost use Rattle.mc_vectors.specs.Cases.{AreCases};
 ghost use Rattle.mc_vectors.specs.Table.{cases_text};
+ghost use Rattle.mc_actions.specs.Vectors.{AreLossesAsked};
+ghost use Rattle.mc_tears.specs.Losses.{AreLostCases, table_text};
 
 use clap::ArgMatches;
 use mc_cli::WatchedFiles;
-use mc_explore::{ExploreError, Line, Start, flash_at_cut, replay};
+use mc_explore::{ExploreError, Line, Schedule, Start, flash_at_cut, replay};
 use mc_flash::{Flash, JournalFlash};
 use mc_options::{
     Outfile, Refusal, census_options, finish, flash_options, in_blocks, read_start, required,
 };
+use mc_tears::{Erasing, LostCase, LostCases, find_losses, start_after, write_lost};
 use mc_trace::{write_patch, write_slots};
 use mc_vectors::{Case, Found, find_cases, write_cases};
 use std::alloc::Global;
@@ -71,6 +74,48 @@ fn find(alloc: Global, start: &Start, cuts: Cuts) -> Result<Found, Refusal>
     }
 }
 
+/// The flashes that so many losses of power leave, before operations and within them.
+///
+/// # Errors
+///
+/// Those of `find`.
+fn find_torn(
+    alloc: Global,
+    start: &Start,
+    erasing: Erasing,
+    cuts: Cuts,
+) -> Result<LostCases, Refusal>
+    requires { IsFew cuts }
+    ensures { IfOk result (λ found. AreLostCases erasing (begun start.now) (AreLossesAsked cuts)
+        found.cases.items) }
+{
+    let bound = match cuts {
+        Cuts::AtMost(bound) => bound,
+        Cuts::Any => 16,
+    };
+    let Ok(found) = find_losses::<JournalFlash>(alloc, start, erasing, bound) else {
+        return Err(Refusal::Explore(ExploreError::Memory));
+    };
+    match cuts {
+        Cuts::Any if !found.whole => Err(Refusal::MoreCuts),
+        _ => Ok(found),
+    }
+}
+
+/// How the words say that an erase fails within which power is lost, if losses within operations are asked for.
+///
+/// # Errors
+///
+/// `Argument` where `--erase` is given without `--torn`.
+fn torn_option(arguments: &ArgMatches<'_>) -> Result<Option<Erasing>, Refusal> {
+    match (arguments.get_flag("torn"), arguments.get_str("erase")) {
+        (false, None) => Ok(None),
+        (true, None | Some("gentle")) => Ok(Some(Erasing::Gentle)),
+        (true, Some("rough")) => Ok(Some(Erasing::Rough)),
+        _ => Err(Refusal::Argument),
+    }
+}
+
 /// Writes the table, and gives back the writer that has it.
 ///
 /// # Errors
@@ -85,17 +130,79 @@ fn print_table<O: Write + Drop>(alloc: Global, cases: &[Case], out: O) -> Result
     Ok(finish(blocks)?)
 }
 
-/// The digests of the flashes that cuts leave.
+/// The same of losses.
 ///
 /// # Errors
 ///
-/// `Memory`.
-fn digests_of(alloc: Global, cases: &[Case]) -> Result<BTreeSet<[u8; 32]>, Refusal> {
-    let mut digests = BTreeSet::new(alloc);
-    for case in cases {
-        digests.insert(case.digest).map_err(|_| Refusal::Memory)?;
+/// Those of `print_table`.
+fn print_lost<O: Write + Drop>(alloc: Global, cases: &[LostCase], out: O) -> Result<O, Refusal>
+    ensures { IfOk result (λ written. Appends (O.contents out) (O.contents written)
+        (table_text cases.now)) }
+{
+    let mut blocks = in_blocks(alloc, out)?;
+    write_lost(cases, &mut blocks)?;
+    Ok(finish(blocks)?)
+}
+
+/// The flashes that are found.
+#[derive(Drop)]
+enum Table {
+    /// Those that cuts leave.
+    OfCuts(Found),
+    /// Those that losses leave, where an erase fails so.
+    OfLosses(LostCases, Erasing),
+}
+
+impl Table {
+    /// How many there are.
+    fn len(&self) -> usize {
+        match self {
+            Table::OfCuts(found) => found.cases.len(),
+            Table::OfLosses(found, _) => found.cases.len(),
+        }
     }
-    Ok(digests)
+
+    /// Whether no number of cuts or losses leaves another.
+    fn is_whole(&self) -> bool {
+        match self {
+            Table::OfCuts(found) => found.whole,
+            Table::OfLosses(found, _) => found.whole,
+        }
+    }
+
+    /// Writes it.
+    ///
+    /// # Errors
+    ///
+    /// Those of `print_table`.
+    fn print<O: Write + Drop>(&self, alloc: Global, out: O) -> Result<O, Refusal> {
+        match self {
+            Table::OfCuts(found) => print_table(alloc, &found.cases, out),
+            Table::OfLosses(found, _) => print_lost(alloc, &found.cases, out),
+        }
+    }
+
+    /// The digests of these flashes.
+    ///
+    /// # Errors
+    ///
+    /// `Memory`.
+    fn digests(&self, alloc: Global) -> Result<BTreeSet<[u8; 32]>, Refusal> {
+        let mut digests = BTreeSet::new(alloc);
+        match self {
+            Table::OfCuts(found) => {
+                for case in &found.cases {
+                    digests.insert(case.digest).map_err(|_| Refusal::Memory)?;
+                }
+            }
+            Table::OfLosses(found, _) => {
+                for case in &found.cases {
+                    digests.insert(case.digest).map_err(|_| Refusal::Memory)?;
+                }
+            }
+        }
+        Ok(digests)
+    }
 }
 
 /// Why a folder cannot be read.
@@ -207,19 +314,70 @@ impl<F: Files> Folder<'_, '_, F> {
         outfile.end(written)
     }
 
-    /// Writes the flashes that cuts leave, and those that the boots from there leave, each once.
+    /// Writes the flash at the last cut of a schedule from a start, and the one that the boot from there leaves, if that is not written yet.
     ///
     /// # Errors
     ///
     /// Those of `write_flash`; `Replay` and `Memory` for want of memory.
-    fn write_flashes(&self, start: &Start, cases: &[Case]) -> Result<(), Refusal> {
-        let mut written = digests_of(self.alloc, cases)?;
-        for case in cases {
-            let flash: JournalFlash = flash_at_cut(self.alloc, start, &case.schedule)?;
-            self.write_flash(start, &case.digest, &flash)?;
-            if written.insert(case.left).map_err(|_| Refusal::Memory)? {
-                let (_, left) = replay::<JournalFlash>(self.alloc, start, &case.schedule)?;
-                self.write_flash(start, &case.left, &left)?;
+    fn write_case(
+        &self,
+        start: &Start,
+        from: &Start,
+        schedule: &Schedule,
+        digests: (&[u8; 32], &[u8; 32]),
+        written: &mut BTreeSet<[u8; 32]>,
+    ) -> Result<(), Refusal>
+        requires { from.now.geometry ≡ start.now.geometry }
+    {
+        let (digest, left) = digests;
+        let flash: JournalFlash = flash_at_cut(self.alloc, from, schedule)?;
+        self.write_flash(start, digest, &flash)?;
+        if written.insert(*left).map_err(|_| Refusal::Memory)? {
+            let (_, flash) = replay::<JournalFlash>(self.alloc, from, schedule)?;
+            self.write_flash(start, left, &flash)?;
+        }
+        Ok(())
+    }
+
+    /// The same of the flash that losses leave.
+    ///
+    /// # Errors
+    ///
+    /// Those of `write_case`; `Explore` for want of memory.
+    fn write_lost(
+        &self,
+        start: &Start,
+        erasing: Erasing,
+        case: &LostCase,
+        written: &mut BTreeSet<[u8; 32]>,
+    ) -> Result<(), Refusal> {
+        let Ok(from) = start_after::<JournalFlash>(self.alloc, start, erasing, &case.losses) else {
+            return Err(Refusal::Explore(ExploreError::Memory));
+        };
+        // The losses of a case can occur.
+        let from = from.ok_or(Refusal::NoCase)?;
+        let digests = (&case.digest, &case.left);
+        self.write_case(start, &from, &Schedule::new(), digests, written)
+    }
+
+    /// Writes the flashes of a table, and those that the boots from there leave, each once.
+    ///
+    /// # Errors
+    ///
+    /// Those of `write_case` and `write_lost`.
+    fn write_flashes(&self, start: &Start, table: &Table) -> Result<(), Refusal> {
+        let mut written = table.digests(self.alloc)?;
+        match table {
+            Table::OfCuts(found) => {
+                for case in &found.cases {
+                    let digests = (&case.digest, &case.left);
+                    self.write_case(start, start, &case.schedule, digests, &mut written)?;
+                }
+            }
+            Table::OfLosses(found, erasing) => {
+                for case in &found.cases {
+                    self.write_lost(start, *erasing, case, &mut written)?;
+                }
             }
         }
         Ok(())
@@ -230,14 +388,14 @@ impl<F: Files> Folder<'_, '_, F> {
     /// # Errors
     ///
     /// `Open` where a file cannot be made; those of `write_flashes` and `print_table`.
-    fn write(&self, start: &Start, cases: &[Case]) -> Result<(), Refusal> {
+    fn write(&self, start: &Start, table: &Table) -> Result<(), Refusal> {
         if self.patches {
             self.write_start(start)?;
         }
-        self.write_flashes(start, cases)?;
+        self.write_flashes(start, table)?;
         let path = self.inside("cases.tsv")?;
         let mut outfile = Outfile::in_new_folder(self.files, self.alloc, path.as_str())?;
-        let written = match print_table(self.alloc, cases, &mut outfile.file) {
+        let written = match table.print(self.alloc, &mut outfile.file) {
             Ok(_) => Ok(()),
             Err(refusal) => Err(refusal),
         };
@@ -286,6 +444,7 @@ fn folder_named<'f, 'p, F: Files>(
 struct Asked<'f, 'p, F: Files> {
     start: Start,
     cuts: Cuts,
+    torn: Option<Erasing>,
     folder: Option<Folder<'f, 'p, F>>,
 }
 
@@ -306,11 +465,13 @@ fn read<'f, 'p, F: Files>(
         Err(refusal) => return Err(refusal),
     };
     let cuts = Cuts::read(arguments)?;
+    let torn = torn_option(arguments)?;
     let folder = folder_named(files, alloc, arguments)?;
     let start = read_start(files, alloc, &options)?;
     Ok(Asked {
         start,
         cuts,
+        torn,
         folder,
     })
 }
@@ -323,26 +484,43 @@ fn read<'f, 'p, F: Files>(
 fn print<F: Files, O: Write>(
     asked: &Asked<'_, '_, F>,
     alloc: Global,
-    found: &Found,
+    table: &Table,
     out: &mut O,
 ) -> Result<(), Refusal> {
     let Some(folder) = &asked.folder else {
-        let _ = print_table(alloc, &found.cases, &mut *out)?;
+        let _ = table.print(alloc, &mut *out)?;
         return Ok(());
     };
-    folder.write(&asked.start, &found.cases)?;
-    let all = if found.whole { "yes" } else { "no" };
-    write!(out, "flashes {}\nall {all}\n", found.cases.len()).map_err(|_| Refusal::Write)
+    folder.write(&asked.start, table)?;
+    let all = if table.is_whole() { "yes" } else { "no" };
+    write!(out, "flashes {}\nall {all}\n", table.len()).map_err(|_| Refusal::Write)
 }
 
-/// Prints each distinct flash that schedules of so many cuts leave as a row of a table: the first schedule that leaves it, its digest,
-/// the outcome of the boot from there, and the digest of the flash that this boot leaves. With `--dir` the table and the flashes are
-/// written into a folder, and how many flashes there are is printed. The words are checked before a file is touched, and the folder is
+/// The flashes that are asked for.
+///
+/// # Errors
+///
+/// Those of `find` and `find_torn`.
+fn search<F: Files>(alloc: Global, asked: &Asked<'_, '_, F>) -> Result<Table, Refusal>
+    requires { IsFew asked.now.cuts }
+{
+    match asked.torn {
+        None => Ok(Table::OfCuts(find(alloc, &asked.start, asked.cuts)?)),
+        Some(erasing) => {
+            let found = find_torn(alloc, &asked.start, erasing, asked.cuts)?;
+            Ok(Table::OfLosses(found, erasing))
+        }
+    }
+}
+
+/// Prints each distinct flash that schedules of so many cuts leave, or with `--torn` so many losses of power, as a row of a table: the first
+/// schedule that leaves it, its digest, the outcome of the boot from there, and the digest of the flash that this boot leaves. With `--dir` the
+/// table and the flashes are written into a folder, and how many flashes there are is printed. The words are checked before a file is touched, and the folder is
 /// made before the search begins.
 ///
 /// # Errors
 ///
-/// Those of `read`, `find` and `print`; `InUse` and `Open` of the folder.
+/// Those of `read`, `search` and `print`; `InUse` and `Open` of the folder.
 pub fn run<F: Files, O: Write>(
     files: &WatchedFiles<'_, F>,
     alloc: Global,
@@ -356,6 +534,6 @@ pub fn run<F: Files, O: Write>(
     if let Some(folder) = &asked.folder {
         folder.make()?;
     }
-    let found = find(alloc, &asked.start, asked.cuts)?;
-    print(&asked, alloc, &found, out)
+    let table = search(alloc, &asked)?;
+    print(&asked, alloc, &table, out)
 }

@@ -11,7 +11,7 @@ use mc_cli::WatchedFiles;
 use mc_explore::{Expectation, ExploreError, Start, flash_at_cut};
 use mc_flash::JournalFlash;
 use mc_options::{NumberOption, Refusal, finish, in_blocks, layout_options};
-use mc_tears::{Asked as Torn, Erasing, Reading, TearError, flash_of_case, write_tears};
+use mc_tears::{Asked as Torn, Erasing, Loss, Reading, TearError, flash_after, write_tears};
 use mc_verdict::Asked;
 use std::alloc::Global;
 use std::io::Write;
@@ -140,8 +140,11 @@ fn write_case<F: Files>(
     wanted: &Wanted<'_>,
     case: &CaseFile<'_>,
 ) -> Result<(), Refusal> {
-    let erasing = wanted.torn.erasing;
-    match flash_of_case::<JournalFlash>(alloc, &wanted.start, erasing, case.number, &case.reading) {
+    let loss = Loss {
+        operation: case.number,
+        within: Some(case.reading),
+    };
+    match flash_after::<JournalFlash>(alloc, &wanted.start, wanted.torn.erasing, &loss) {
         Ok(Some(flash)) => write_file(files, alloc, case.path, &flash),
         Ok(None) => Err(Refusal::NoCase),
         Err(_) => Err(refused(TearError::Memory)),

@@ -3,3 +3,4 @@ pub mod Ending
 pub mod Standing
 pub mod Loads
 pub mod Written
+pub mod Losing

@@ -1,3 +1,4 @@
 pub mod Ends
 pub mod Tears
+pub mod Losses
 pub mod inner

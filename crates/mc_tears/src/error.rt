@@ -2,7 +2,6 @@
 ghost use Rattle.std.specs.Prelude.{◌≡◌};
 ghost use Rattle.mc_tears.specs.declared.error.TearError.TheVariants.{Memory, Write};
 
-use mc_flash::FlashError;
 use mc_output::WriteFailed;
 use std::alloc::AllocError;
 use thiserror::Error;
@@ -16,14 +15,6 @@ pub enum TearError {
     /// A write failed, or took no bytes.
     #[error("E25 Write")]
     Write,
-}
-
-impl From<FlashError> for TearError {
-    ghost from_gives = { λ _ e. e ≡ Memory };
-
-    fn from(_: FlashError) -> Self {
-        TearError::Memory
-    }
 }
 
 impl From<AllocError> for TearError {

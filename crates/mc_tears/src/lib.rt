@@ -6,11 +6,16 @@ mod cases;
 mod end;
 mod error;
 mod loading;
+mod loss;
+mod losses;
+mod lost_table;
 mod tears;
 
-pub use case_flash::flash_of_case;
+pub use case_flash::flash_after;
 pub use cases::Asked;
-pub use end::End;
 pub use error::TearError;
+pub use loss::Loss;
+pub use losses::{LostCase, LostCases, find_losses, start_after};
+pub use lost_table::write_lost;
 pub use mc_tear::{Entry, Erasing, Reading};
 pub use tears::write_tears;

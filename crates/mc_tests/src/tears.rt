@@ -3,7 +3,7 @@ use crate::common::{rules_named, same_at};
 use mc_explore::{Expectation, Kind, Line, Start};
 use mc_fixtures::{FIRST_IMAGE, SECOND_IMAGE, worked};
 use mc_flash::JournalFlash;
-use mc_tears::{Asked, Erasing, Reading, flash_of_case, write_tears};
+use mc_tears::{Asked, Erasing, Loss, Reading, find_losses, flash_after, write_lost, write_tears};
 use std::alloc::Global;
 use std::rt::HostRuntime;
 
@@ -79,19 +79,42 @@ fn flashes(rt: HostRuntime) {
     let layout = worked().expect(&rt, "a layout");
     let start = Start::from_images(alloc, &layout, Kind::Perm, &FIRST_IMAGE, &SECOND_IMAGE);
     let start = start.expect(&rt, "a start");
-    for (number, text, is_there) in [
+    for (operation, text, is_there) in [
         (5, "magic=good,image-ok=bad", true),
         (5, "magic=good", false),
         (19, "data", false),
     ] {
-        let reading = Reading::read(text).expect(&rt, "a reading");
-        let erasing = Erasing::Gentle;
-        let found = flash_of_case::<JournalFlash>(alloc, &start, erasing, number, &reading);
+        let within = Some(Reading::read(text).expect(&rt, "a reading"));
+        let loss = Loss { operation, within };
+        let found = flash_after::<JournalFlash>(alloc, &start, Erasing::Gentle, &loss);
         same_at(
             &rt,
             &text,
             &found.expect(&rt, "memory").is_some(),
             &is_there,
         );
+    }
+}
+
+/// How many flashes any number of losses leaves.
+#[test]
+fn distinct(rt: HostRuntime) {
+    let alloc = rt.alloc();
+    let layout = worked().expect(&rt, "a layout");
+    for (name, kind, erasing, count) in [
+        ("call1", Kind::None, Erasing::Rough, 1),
+        ("call1", Kind::Test, Erasing::Gentle, 42),
+        ("call1", Kind::Perm, Erasing::Gentle, 106),
+        ("call1", Kind::Revert, Erasing::Gentle, 191),
+        ("call1", Kind::Test, Erasing::Rough, 528),
+        ("call3", Kind::Revert, Erasing::Gentle, 203),
+        ("unit1", Kind::Test, Erasing::Gentle, 107),
+    ] {
+        let (a, b) = (&FIRST_IMAGE, &SECOND_IMAGE);
+        let start = Start::from_images(alloc, &layout, kind, a, b).expect(&rt, "a start");
+        let start = start.with_rules(rules_named(name));
+        let found = find_losses::<JournalFlash>(alloc, &start, erasing, 16).expect(&rt, "memory");
+        same_at(&rt, &name, &found.cases.len(), &count);
+        same_at(&rt, &name, &found.whole, &true);
     }
 }

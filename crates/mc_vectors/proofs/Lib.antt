@@ -1,10 +1,11 @@
 mod Digested
-mod Orders
+pub mod Orders
 mod Covered
 mod Extended
 mod Visited
 mod Known
 mod Arrived
-mod Tabled
+pub mod Tabled
 mod Differing
 mod Nearest
+pub mod Searches

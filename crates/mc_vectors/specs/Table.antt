@@ -22,13 +22,13 @@ boot_text o = field (result_text o.result) ++ (field (type_text o.kind) ++ field
 abbrev pub slots_text : Report → List ℕ
 slots_text o = field (slot_text o.primary) ++ (field (slot_text o.secondary) ++ field (type_text o.next))
 
--- What becomes of a case: both of its outcome, the digest of the flash that the boot leaves, and a line feed.
-abbrev pub ended_text : Case → List ℕ
-ended_text c = boot_text (shown c.outcome) ++ (slots_text (shown c.outcome) ++ (encode_lower c.left ++ codes "\n"))
+-- What becomes of a flash: what the boot does and what it leaves, the digest of the flash that it leaves, and a line feed.
+abbrev pub ended_text : Report → List ℕ → List ℕ
+ended_text o left = boot_text o ++ (slots_text o ++ (encode_lower left ++ codes "\n"))
 
 -- A case: a line.
 abbrev pub case_text : Case → List ℕ
-case_text c = named_text c ++ ended_text c
+case_text c = named_text c ++ ended_text (shown c.outcome) c.left
 
 -- The names of the fields.
 abbrev pub names_text : List ℕ

@@ -2,3 +2,4 @@
 pub mod Digests
 pub mod Locating
 pub mod Searching
+pub mod Searches

@@ -9,6 +9,7 @@ mod search;
 mod table;
 
 pub use case::{Case, Found};
+pub use digests::Digests;
 pub use locating::{Located, SectorId, locate, write_located};
 pub use search::find_cases;
-pub use table::write_cases;
+pub use table::{NAMES, ended_line, write_cases};

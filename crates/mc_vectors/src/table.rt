@@ -11,7 +11,8 @@ use mc_boot::{ImageId, Outcome};
 use mc_output::{Line, MOST_LINE, WriteFailed, write_line, write_text};
 use std::io::Write;
 
-const NAMES: &str = "schedule\tflash\tresult\ttype\tops\tprimary\tsecondary\tnext\tleft\n";
+/// The names of the fields of a table.
+pub const NAMES: &str = "schedule\tflash\tresult\ttype\tops\tprimary\tsecondary\tnext\tleft\n";
 
 // Adds a word and a tab.
 fn put_word(line: &mut Line, word: &str)
@@ -59,31 +60,31 @@ fn put_slots(line: &mut Line, outcome: &Outcome)
     put_word(line, outcome.next.name());
 }
 
+// The beginning of a case's line: what names it.
+fn named_line(case: &Case) -> Line
+    ensures { result ≡ named_text case.now }
+{
+    let mut line = Line::new();
+    case.schedule.put_into(&mut line);
+    line.put("\t");
+    line.put_hex(&case.digest);
+    line.put("\t");
+    line
+}
+
+/// The rest of a line, behind the digest of the flash: what the boot from there does and leaves.
+pub fn ended_line(outcome: &Outcome, left: &[u8; 32]) -> Line
+    ensures { result ≡ ended_text (shown outcome.now) left.now }
+{
+    let mut line = Line::new();
+    put_boot(&mut line, outcome);
+    put_slots(&mut line, outcome);
+    line.put_hex(left);
+    line.put("\n");
+    line
+}
+
 impl Case {
-    // The beginning of its line: what names it.
-    fn named_line(&self) -> Line
-        ensures { result ≡ named_text self.now }
-    {
-        let mut line = Line::new();
-        self.schedule.put_into(&mut line);
-        line.put("\t");
-        line.put_hex(&self.digest);
-        line.put("\t");
-        line
-    }
-
-    // The rest of its line: what becomes of it.
-    fn ended_line(&self) -> Line
-        ensures { result ≡ ended_text self.now }
-    {
-        let mut line = Line::new();
-        put_boot(&mut line, &self.outcome);
-        put_slots(&mut line, &self.outcome);
-        line.put_hex(&self.left);
-        line.put("\n");
-        line
-    }
-
     // Writes its line.
     fn write<W: Write>(&self, writer: &mut W) -> Result<(), WriteFailed>
         ensures whole { OnOk result (Appends (W.contents writer.old) (W.contents writer.new)
@@ -91,8 +92,8 @@ impl Case {
         ensures prefix { OnErr result (AppendsPrefix (W.contents writer.old) (W.contents writer.new)
             (case_text self.now)) }
     {
-        write_line(writer, &self.named_line())?;
-        write_line(writer, &self.ended_line())
+        write_line(writer, &named_line(self))?;
+        write_line(writer, &ended_line(&self.outcome, &self.left))
     }
 }
 

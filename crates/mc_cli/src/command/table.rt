@@ -609,12 +609,23 @@ static TEARS: [Word; 9] = [
 ];
 
 /// Which flashes are written, and where.
-static VECTORS: [Word; 3] = [
+static VECTORS: [Word; 5] = [
     Word {
         name: "cuts",
         takes: Takes::Value("K"),
         required: true,
         help: "Most power cuts in a schedule, 0 to 16, or all for any number",
+        ..FLAG
+    },
+    Word {
+        name: "torn",
+        help: "Also where power is lost within an operation, as tears has it",
+        ..FLAG
+    },
+    Word {
+        name: "erase",
+        takes: Takes::OneOf("HOW", &["gentle", "rough"]),
+        help: "With --torn: a torn erase only sets bits, or may leave any bytes in its sector [default: gentle]",
         ..FLAG
     },
     Word {
@@ -772,6 +783,9 @@ With --dir: cases.tsv, and flash/DIGEST.bin for each of them, both slots, the pr
 start.bin, and flash/DIGEST.patch: a line for each sector that is not what it was in start.bin:
   SLOT SECTOR blank, SLOT SECTOR SLOT SECTOR (what that one held in start.bin), or SLOT SECTOR HEX
 Then: how many flashes, and whether no number of cuts leaves another (all yes).
+With --torn power is also lost within an operation: 5~magic=good,image-ok=bad.0 is a loss within operation 5
+of the first boot, of which the next one reads that, and a cut before operation 0 of that one. Each case of
+tears counts as a loss, so that more than one or two of them on a real board are very many flashes.
 Example:
   mcsim vectors [LAYOUT] [SOURCE] --cuts all --dir cases --patches";
 

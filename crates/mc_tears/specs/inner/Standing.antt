@@ -2,10 +2,10 @@
 use Rattle.std.specs.{Io.KnownBytes.{Appends}, Prelude.{Bool, Err, List, Ok, Option, Result, Some, [], false, if◌then◌else◌, length, slice_get, true, ℕ, ⊤, ◌+◌, ◌≡◌, ◌≤◌}}
 use Rattle.mc_boot.specs.{Boot.{left_of, progress}, Outcome.{ops_of}, Plan.{PowerOn}, declared.boot.Boot.{Boot}}
 use Rattle.mc_explore.specs.{Boots.{at_cut}, inner.OneRound.{IsSummary, most_of, one_round}}
-use Rattle.mc_flash.specs.{Flash.{size_of}, Geometry.{Geometry, IsLayout}, Usage.{Allows, Counts, HasRoom, Seen, Stays, plus}}
+use Rattle.mc_flash.specs.{Flash.{size_of}, Geometry.{Geometry, IsLayout}, Usage.{Allows, Counts, HasRoom, Keeps, LeaveRoom, Seen, Stays, no_counts, plus}}
 use Rattle.mc_flash.specs.{declared.op.Op.{Op}, declared.op.Slot.{Slot}}
 use Rattle.mc_output.specs.Text.{AppendsPrefix}
-use Rattle.mc_tear.specs.{Cases.{is_case}, declared.reading.Reading.{Reading}, inner.Room.{Applies, tear_counts}}
+use Rattle.mc_tear.specs.{Cases.{is_case, torn}, declared.reading.Reading.{Reading}, declared.torn.Erasing.{Erasing}, inner.Room.{Applies, tear_counts}}
 use Rattle.mc_tears.specs.Ends.{ends_right, is_busy, left_of as left, shown_end}
 use Rattle.mc_tears.specs.Tears.{case_end, case_text, cut_end}
 use Rattle.mc_tears.specs.{declared.cases.Asked.{Asked}, declared.cases.Between.{Between}, declared.end.Whole.{Whole}, declared.error.TearError.{TearError}}
@@ -83,3 +83,12 @@ reading_text_at a x n op r = if case_at a x n op r then case_text a x n op r els
 
 unfoldable pub reading_right : Asked → PowerOn → ℕ → Op → Reading → Bool
 reading_right a x n op r = if case_at a x n op r then ends_right a.expectation (case_end a.erasing x n op r) else true
+
+-- The reading is a case of the operation, and the flash is that of it; or it is none, and all stays.
+pub record Puts (e : Erasing) (op : Op) (r : Reading) (old new : Seen) (is : Bool) : Type 0 where
+  pub case : is ≡ is_case e old.geometry op old.content r
+  pub put : is ≡ true → new.content ≡ torn e old.geometry op old.content r
+  pub stays : is ≡ false → new.content ≡ old.content
+  pub keeps : Keeps old new
+  pub limits : new.usage.limits ≡ old.usage.limits
+  pub counts : LeaveRoom new.usage.counts no_counts (plus old.usage.counts (tear_counts old.geometry))
