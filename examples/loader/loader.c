@@ -15,6 +15,7 @@
  *   -DSECONDARY_NOT_ERASED  the secondary's trailer is not erased
  *   -DHIGHEST_AS_LOWEST     the lowest written entry is taken for the highest
  *   -DUNPREPARED_REVERT     a revert begins without making the secondary's trailer anew
+ *   -DENTRY_BY_VALUE        a status entry is taken as written only where it begins with a byte that is written there
  */
 #include <stdbool.h>
 #include <stdint.h>
@@ -157,11 +158,20 @@ static void write_size_and_magic(enum slot slot, uint32_t size) {
     write_call(slot, place(slot, AT_MAGIC), MAGIC, 16);
 }
 
+/* Whether a status entry is written, torn or not. */
+static bool is_written(uint32_t entry) {
+    const uint8_t *unit = boot.bytes[PRIMARY] + entry_place(entry);
+#ifdef ENTRY_BY_VALUE
+    return unit[0] < 0x04;
+#endif
+    return !is_erased(unit, layout.unit);
+}
+
 /* The number of the highest written entry and one more, or 0. */
 static uint32_t entries_written(void) {
     uint32_t found = 0;
     for (uint32_t entry = 0; entry < 3 * layout.max_sectors; entry++) {
-        if (!is_erased(boot.bytes[PRIMARY] + entry_place(entry), layout.unit)) {
+        if (is_written(entry)) {
             found = entry + 1;
 #ifdef HIGHEST_AS_LOWEST
             break;
