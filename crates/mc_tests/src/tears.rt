@@ -108,7 +108,7 @@ fn distinct(rt: HostRuntime) {
         ("call1", Kind::Revert, Erasing::Gentle, 191),
         ("call1", Kind::Test, Erasing::Rough, 528),
         ("call3", Kind::Revert, Erasing::Gentle, 203),
-        ("unit1", Kind::Test, Erasing::Gentle, 107),
+        ("unit1", Kind::Perm, Erasing::Gentle, 240),
     ] {
         let (a, b) = (&FIRST_IMAGE, &SECOND_IMAGE);
         let start = Start::from_images(alloc, &layout, kind, a, b).expect(&rt, "a start");
