@@ -3,3 +3,14 @@ pub mod Putting
 pub mod Whole
 pub mod CasesTorn
 pub mod Read
+pub mod Alike
+pub mod Same
+pub mod Lists
+pub mod Second
+pub mod Beside
+pub mod Boots
+pub mod Along
+pub mod OneOp
+pub mod Opening
+pub mod Midway
+pub mod EndsProof

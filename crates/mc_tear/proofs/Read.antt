@@ -3,19 +3,19 @@ use Rattle.std.proofs.{Common.{ap, arith, eq-eqb, inl, inr, subst, sym, ◌∙�
 use Rattle.std.proofs.{lemmas.List.{get_or_default, same_lists}, lemmas.List.Edits.{get_or-between, length-between}, lemmas.Slice.Eq.{bytes_eq-Decides}}
 use Rattle.std.specs.{Bool.{beq}, List.{list_all, range_with_len}, Option.{is_some}}
 use Rattle.std.specs.Prelude.{Bool, List, None, Option, Some, bytes_eq, false, if◌then◌else◌, length, not, option_map, refl, slice_index, suc, true, zero}
-use Rattle.std.specs.Prelude.{ℕ, ◌%◌, ◌&&◌, ◌*◌, ◌+◌, ◌-◌, ◌/◌, ◌<◌, ◌==◌, ◌≡◌, ◌≤◌, ◌||◌, ◌⊎◌}
-use Rattle.mc_boot.proofs.Transfers.{other_number}
+use Rattle.std.specs.Prelude.{ℕ, ◌%◌, ◌&&◌, ◌*◌, ◌+◌, ◌-◌, ◌/◌, ◌<◌, ◌==◌, ◌≡◌, ◌≢◌, ◌≤◌, ◌||◌, ◌⊎◌}
+use Rattle.mc_boot.proofs.{Joins.{are_equal}, Meets.{same_bytes, same_content, which_slot}, Transfers.{other_number}}
 use Rattle.mc_boot.specs.Torn.{IsKept, IsTorn}
 use Rattle.mc_flash.specs.{Flash.{CanTry, Content, IsSized, apply, byte, bytes_of, is_blank, size_of}, Geometry.{Geometry, IsLayout}, declared.op.Op.{Op}}
 use Rattle.mc_flash.specs.{declared.op.Op.TheVariants.{Copy, Erase, Program}, declared.op.Slot.{Slot}, declared.op.Slot.TheVariants.{Primary, Secondary}}
-use Rattle.mc_flash.specs.facts.{Changes.{all_blank, blank_each, program_was_blank, sized_is}, Layouts.{small_unit}}
-use Rattle.mc_tear.proofs.{Whole.{said, torn_at, torn_is, whole_byte, whole_is, written_long}}
-use Rattle.mc_tear.specs.Cases.{entry_byte, fields_of, flag_byte, if_named, is_entry, is_flag, is_magic, is_rough, is_within, magic_byte, may_change, may_change_at, names, reads_as}
-use Rattle.mc_tear.specs.Cases.{slot_of, tearing_of, torn, value_at, value_or, written_byte, written_from, written_len}
-use Rattle.mc_tear.specs.{Laws.{EachIsRead, IsRead, begins_written, is_entry_as}, Readings.{entry_of, flag_of as flag_digit_of, magic_of as magic_digit_of, reading_of}}
+use Rattle.mc_flash.specs.facts.{Changes.{all_blank, blank_each, changed_sized, program_was_blank, sized_is}, Layouts.{small_unit}}
+use Rattle.mc_tear.proofs.{Ranges.{one_fails}, Whole.{said, torn_at, torn_is, torn_there, whole_byte, whole_is, written_long}}
+use Rattle.mc_tear.specs.Cases.{entry_byte, fields_of, flag_byte, if_named, is_entry, is_flag, is_magic, is_primary, is_rough, is_unfinished, is_within, magic_byte, may_change, may_change_at, names, reads_as}
+use Rattle.mc_tear.specs.Cases.{slot_of, tearing_of, torn, torn_byte, torn_bytes, value_at, value_or, written_byte, written_from, written_len}
+use Rattle.mc_tear.specs.{Laws.{EachIsRead, IsListed, IsRead, begins_written, is_entry_as}, Readings.{entry_of, flag_of as flag_digit_of, magic_of as magic_digit_of, reading_of}}
 use Rattle.mc_tear.specs.{declared.named.Fields.{Fields}, declared.reading.Entry.{Entry}, declared.reading.Reading.{Reading}, declared.torn.Erasing.{Erasing}}
 use Rattle.mc_trailer.specs.{Trailer.{bytes_at, flag_of, magic_bytes, magic_of, place, trailer_of}, facts.Places.{entry_inside, place_inside}}
-use Rattle.mc_trailer.specs.{declared.trailer.Flag.{Flag}, declared.trailer.Magic.{Magic}, declared.trailer.Trailer.{Trailer}}
+use Rattle.mc_trailer.specs.{declared.trailer.Flag.{Flag}, declared.trailer.Magic.{Magic}, declared.trailer.Trailer.{Trailer}, facts.Fields.{same_magic}}
 use Rattle.mc_trailer.specs.declared.places.Field.TheVariants as field
 use Rattle.mc_trailer.specs.declared.trailer.Flag.TheVariants as flags
 use Rattle.mc_trailer.specs.declared.trailer.Magic.TheVariants as magics
@@ -453,6 +453,133 @@ module _ (e : Erasing) (g : Geometry) (op : Op) (s v : Content) (ok : IsLayout g
     entry = entry_named F.entry (begins_written g op v) (begins_written g op t) reads_entry;
   }
 
+  -- ---- the flash of that reading stands for it
+
+  every : (p : ℕ → Bool) (k m : ℕ) → list_all p (range_with_len 0 m) ≡ true → k < m → p k ≡ true
+  every p k m all short = by (p k) refl
+    where
+      by : (b : Bool) → p k ≡ b → p k ≡ true
+      by true is = is
+      by false is = let none : false ≡ true = sym (one_fails p 0 m k (omega arith) (omega (arith, short)) is) ∙ all in absurd cc
+
+  abbrev from_op : ℕ
+  from_op = written_from g op
+
+  abbrev IsOut : Slot → ℕ → Type 0
+  IsOut o i = o ≡ slot → (i < from_op) ⊎ (from_op + written_len g op ≤ i)
+
+  out_not : (i : ℕ) → (i < from_op) ⊎ (from_op + written_len g op ≤ i) → may_change_at e g op s i ≡ false
+  out_not i it = grind (arith, nat_tests)
+
+  other_kept : (e : Erasing) (op : Op) (w : Content) (o : Slot) (i : ℕ) → byte w o i ≡ byte s o i → o ≢ slot_of op → IsKept (tearing_of e) g op s w o i
+  other_kept erasings.Gentle op w o i same other = same
+  other_kept erasings.Rough (Erase x sector) w o i same other = λ here. absurd (other here)
+  other_kept erasings.Rough (Program x at bytes) w o i same other = same
+  other_kept erasings.Rough (Copy source at to offset len) w o i same other = same
+
+  pub out_v : (o : Slot) (i : ℕ) → IsOut o i → byte v o i ≡ byte s o i
+  out_v o i out = elim (which_slot o slot) [
+    | inl same ↦ rw same (kept_at i (out_not i (out same)))
+    | inr other ↦ left.kept o i (other_kept e op left.whole o i ((whole_is g ok s sized op left.whole can left.makes).other o i other) other)
+  ]
+
+  pub out_t : (o : Slot) (i : ℕ) → IsOut o i → byte t o i ≡ byte s o i
+  out_t o i out = elim (which_slot o slot) [
+    | inl same ↦ rw same (at_kept i (out_not i (out same)) ∙ kept_at i (out_not i (out same)))
+    | inr other ↦ (torn_is g ok s sized op can e r).other o i other
+  ]
+
+  finished : is_unfinished e g op s r ≡ false → t ≡ left.whole
+  finished done = same_content left.whole t (each Primary) (each Secondary)
+    where
+      all_so : (b : Bool) → not b ≡ false → b ≡ true
+      all_so true is = refl
+      all_so false is = absurd cc
+
+      made : (k : ℕ) → k < written_len g op → torn_byte e g op s r k ≡ written_byte op s k
+      made k short = are_equal (torn_byte e g op s r k) (written_byte op s k)
+          (every (λ j. torn_byte e g op s r j == written_byte op s j) k (written_len g op)
+          (all_so (list_all (λ j. torn_byte e g op s r j == written_byte op s j) (range_with_len 0 (written_len g op))) done) short)
+
+      inner : (i k : ℕ) → from_op + k ≡ i → k < written_len g op → byte t slot i ≡ byte left.whole slot i
+      inner i k is short = subst (λ n. byte t slot n ≡ byte left.whole slot n) is
+          (torn_there g ok s sized op can e r k short ∙ made k short ∙ sym (whole_byte g ok s sized op can left.whole left.makes k short))
+
+      here : (i : ℕ) → byte t slot i ≡ byte left.whole slot i
+      here i = elim (cases_lt i from_op) [
+        | inl low ↦ out_t slot i (λ _. inl low) ∙ sym ((whole_is g ok s sized op left.whole can left.makes).before i low)
+        | inr high ↦ elim (cases_lt i (from_op + written_len g op)) [
+          | inl low ↦ inner i (i - from_op) (omega (arith, high)) (omega (arith, high, low))
+          | inr beyond ↦ out_t slot i (λ _. inr beyond) ∙ sym ((whole_is g ok s sized op left.whole can left.makes).beyond i (omega (arith, beyond, written_long g ok s sized op can)))
+        ]
+      ]
+
+      both : (o : Slot) (i : ℕ) → byte t o i ≡ byte left.whole o i
+      both o i = elim (which_slot o slot) [
+        | inl same ↦ rw same (here i)
+        | inr other ↦ (torn_is g ok s sized op can e r).other o i other ∙ sym ((whole_is g ok s sized op left.whole can left.makes).other o i other)
+      ]
+
+      each : (o : Slot) → bytes_of t o ≡ bytes_of left.whole o
+      each o = same_bytes left.whole t o ((torn_is g ok s sized op can e r).sizes o ∙ sym ((whole_is g ok s sized op left.whole can left.makes).sizes o)) (both o)
+
+  pub stands : IsListed e g op s t
+  stands = by (is_unfinished e g op s r) refl
+    where
+      by : (b : Bool) → is_unfinished e g op s r ≡ b → IsListed e g op s t
+      by true unfinished = inr (inr (r, rw (of_t.named, unfinished, of_t.fields) refl, refl))
+      by false done = inr (inl (left.makes ∙ ap (λ (x : Content). Some x) (sym (finished done))))
+
+  -- Its trailer reads alike, whether or not the operation may change a field.
+  sized_v : IsSized g v
+  sized_v = record { primary = left.sizes Primary ∙ sized.primary; secondary = left.sizes Secondary ∙ sized.secondary }
+
+  pub sized_t : IsSized g t
+  sized_t = changed_sized g s t slot (written_from g op) (torn_bytes e g op s r) (torn_is g ok s sized op can e r) sized
+
+  pub magic_alike : (trailer_of g t slot).magic ≡ (trailer_of g v slot).magic
+  magic_alike = by F.magic refl
+    where
+      none_of : (b : Bool) → not b ≡ false → b ≡ true
+      none_of true is = refl
+      none_of false is = absurd cc
+
+      no_one : (b : Bool) → not b ≡ true → b ≡ false
+      no_one false is = refl
+      no_one true is = absurd cc
+
+      unchanged : F.magic ≡ false → (k : ℕ) → k < 16 → may_change_at e g op s (m + k) ≡ false
+      unchanged no_ k short = no_one (may_change_at e g op s (m + k)) (every_from (none_of (list_all (λ i. not (may_change_at e g op s i)) (range_with_len m 16)) no_))
+        where
+          every_from : list_all (λ i. not (may_change_at e g op s i)) (range_with_len m 16) ≡ true → not (may_change_at e g op s (m + k)) ≡ true
+          every_from all = go (not (may_change_at e g op s (m + k))) refl
+            where
+              go : (b : Bool) → not (may_change_at e g op s (m + k)) ≡ b → not (may_change_at e g op s (m + k)) ≡ true
+              go true is = is
+              go false is =
+                  let f : false ≡ true = sym (one_fails (λ i. not (may_change_at e g op s i)) m 16 (m + k) (omega arith) (omega (arith, short)) is) ∙ all in absurd cc
+
+      by : (b : Bool) → F.magic ≡ b → (trailer_of g t slot).magic ≡ (trailer_of g v slot).magic
+      by true is = reads_magic is
+      by false no_ = same_magic g v t slot ok sized_v sized_t (λ i within. at_kept (m + i) (unchanged no_ i within))
+
+  pub image_ok_alike : (trailer_of g t slot).image_ok ≡ (trailer_of g v slot).image_ok
+  unfolding trailer_of
+  image_ok_alike = by F.image_ok refl
+    where
+      by : (b : Bool) → F.image_ok ≡ b → flag_of (byte t slot (place g slot field.ImageOk)) ≡ flag_of (byte v slot (place g slot field.ImageOk))
+      by true is = reads_image_ok is
+      by false no_ = ap flag_of (at_kept (place g slot field.ImageOk) no_)
+
+  pub copy_done_alike : is_primary slot ≡ true → (trailer_of g t slot).copy_done ≡ (trailer_of g v slot).copy_done
+  unfolding trailer_of
+  copy_done_alike primary = by (may_change_at e g op s (place g slot field.CopyDone)) refl
+    where
+      by : (b : Bool) → may_change_at e g op s (place g slot field.CopyDone) ≡ b
+          → flag_of (byte t slot (place g slot field.CopyDone)) ≡ flag_of (byte v slot (place g slot field.CopyDone))
+      by true is = reads_copy_done (rw (primary, is) refl)
+      by false no_ = ap flag_of (at_kept (place g slot field.CopyDone) no_)
+
   read : (n : ℕ) × (n < 192) × IsRead e g op s (reading_of n) v × IsRead e g op s (reading_of n) (torn e g op s (reading_of n))
   read =
       let number = numbered r in
@@ -462,3 +589,31 @@ module _ (e : Erasing) (g : Geometry) (op : Op) (s v : Content) (ok : IsLayout g
 
 pub each_is_read : EachIsRead
 each_is_read e g op s v ok sized can left = read e g op s v ok sized can left
+
+-- What stands for a torn flash: one of those that stand for all, as it outside of what the operation writes, and read alike.
+pub record StandsFor (e : Erasing) (g : Geometry) (op : Op) (s v t : Content) : Type 0 where
+  pub listed : IsListed e g op s t
+  pub sized : IsSized g t
+  pub out : (o : Slot) (i : ℕ) → (o ≡ slot_of op → (i < written_from g op) ⊎ (written_from g op + written_len g op ≤ i)) → byte t o i ≡ byte v o i
+  pub magic : (trailer_of g t (slot_of op)).magic ≡ (trailer_of g v (slot_of op)).magic
+  pub image_ok : (trailer_of g t (slot_of op)).image_ok ≡ (trailer_of g v (slot_of op)).image_ok
+  pub copy_done : is_primary (slot_of op) ≡ true → (trailer_of g t (slot_of op)).copy_done ≡ (trailer_of g v (slot_of op)).copy_done
+
+pub stands_for : (e : Erasing) (g : Geometry) (op : Op) (s v : Content) → IsLayout g → IsSized g s → CanTry g op → IsTorn (tearing_of e) g op s v
+    → (t : Content) × StandsFor e g op s v t
+stands_for e g op s v ok sized can left = (
+  t e g op s v ok sized can left,
+  record {
+    listed = stands e g op s v ok sized can left;
+    sized = sized_t e g op s v ok sized can left;
+    out = λ o i out. out_t e g op s v ok sized can left o i out ∙ sym (out_v e g op s v ok sized can left o i out);
+    magic = magic_alike e g op s v ok sized can left;
+    image_ok = image_ok_alike e g op s v ok sized can left;
+    copy_done = copy_done_alike e g op s v ok sized can left;
+  },
+)
+
+-- A torn flash is as before outside of what the operation writes.
+pub torn_out : (e : Erasing) (g : Geometry) (op : Op) (s v : Content) → IsLayout g → IsSized g s → CanTry g op → IsTorn (tearing_of e) g op s v
+    → (o : Slot) (i : ℕ) → (o ≡ slot_of op → (i < written_from g op) ⊎ (written_from g op + written_len g op ≤ i)) → byte v o i ≡ byte s o i
+torn_out e g op s v ok sized can left = out_v e g op s v ok sized can left

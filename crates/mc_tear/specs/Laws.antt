@@ -1,7 +1,9 @@
 -- What the readings of a torn operation stand for, among all that it may leave.
-use Rattle.std.specs.Prelude.{Bool, Some, not, true, ℕ, ◌<◌, ◌≡◌}
-use Rattle.mc_boot.specs.Torn.{IsTorn}
-use Rattle.mc_flash.specs.{Flash.{CanTry, Content, IsSized, apply, is_blank}, Geometry.{Geometry, IsLayout}, declared.op.Op.{Op}}
+use Rattle.std.specs.Prelude.{Bool, List, Option, Some, length, not, option_map, slice_get, slice_index, true, ℕ, ◌<◌, ◌≡◌, ◌⊎◌}
+use Rattle.mc_boot.specs.{Life.{is_at_rest}, Outcome.{at, left_by, ops_of, outcome_of}, Plan.{PowerOn, again, image_size}, Torn.{IsTorn}}
+use Rattle.mc_flash.specs.{Flash.{CanTry, Content, IsSized, apply, byte, bytes_of, is_blank}, Geometry.{Geometry, IsLayout}, declared.op.Op.{Op}}
+use Rattle.mc_flash.specs.{declared.op.Slot.{Slot}, declared.op.Slot.TheVariants.{Primary}, facts.Layouts.{data_end}}
+use Rattle.mc_image.specs.Valid.{id_of}
 use Rattle.mc_trailer.specs.Trailer.{bytes_at, trailer_of}
 use Rattle.mc_tear.specs.Cases.{fields_of, if_named, is_case, names, reads_as, slot_of, tearing_of, torn, written_from}
 use Rattle.mc_tear.specs.{Readings.{reading_of}, declared.reading.Entry.{Entry}, declared.reading.Reading.{Reading}, declared.torn.Erasing.{Erasing}}
@@ -34,3 +36,39 @@ EachIsRead =
     (e : Erasing) (g : Geometry) (op : Op) (s v : Content)
     → IsLayout g → IsSized g s → CanTry g op → IsTorn (tearing_of e) g op s v
     → (n : ℕ) × (n < 192) × IsRead e g op s (reading_of n) v × IsRead e g op s (reading_of n) (torn e g op s (reading_of n))
+
+-- ---- how the boots from there end
+
+-- What stands for all that a torn operation may leave: what stood before it, what it makes whole, and the flashes of its cases.
+abbrev pub IsListed : Erasing → Geometry → Op → Content → Content → Type 0
+IsListed e g op s u =
+    (u ≡ s)
+    ⊎ ((apply g op s ≡ Some u)
+    ⊎ ((r : Reading) × (is_case e g op s r ≡ true) × (u ≡ torn e g op s r)))
+
+-- Whether a swap is under way in what a boot leaves.
+abbrev pub rests : PowerOn → Option Bool
+rests x = option_map (λ z. is_at_rest (trailer_of x.geometry z Primary)) (left_by x)
+
+-- Two boots end alike: with one outcome, and with a swap under way afterwards in both or in neither.
+pub record EndAlike (x y : PowerOn) : Type 0 where
+  pub outcome : outcome_of x ≡ outcome_of y
+  pub rest : rests x ≡ rests y
+
+-- No image depends on the bytes of a trailer: bytes that are the same up to the trailer's sectors begin with the same image, and with
+-- one of the same size.
+abbrev pub ImagesApart : Geometry → Content → Type 0
+ImagesApart g s =
+    (slot : Slot) (bytes : List ℕ) → length bytes ≡ length (bytes_of s slot)
+    → ((i : ℕ) → i < data_end g slot → slice_index bytes i ≡ byte s slot i)
+    → (id_of bytes ≡ id_of (bytes_of s slot)) × (image_size bytes ≡ image_size (bytes_of s slot))
+
+-- Each flash that a torn operation of a boot may leave ends as one of those that stand for all, whatever flash the boot began with, if
+-- no image depends on a trailer there and in what is left at the end.
+abbrev pub EachEnds : Type 0
+EachEnds =
+    (e : Erasing) (x : PowerOn) (n : ℕ) (op : Op) (s v z : Content)
+    → IsLayout x.geometry → IsSized x.geometry x.content
+    → slice_get (ops_of x) n ≡ Some op → at x n ≡ Some s → IsTorn (tearing_of e) x.geometry op s v
+    → left_by (again x v) ≡ Some z → ImagesApart x.geometry v → ImagesApart x.geometry z
+    → (u : Content) × IsListed e x.geometry op s u × EndAlike (again x v) (again x u)

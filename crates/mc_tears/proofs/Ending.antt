@@ -19,7 +19,7 @@ left_same x y same =
     let left = left_defined x in
     left_is y left.0 (same ∙ left.1) ∙ sym (left_is x left.0 left.1)
 
-report_is : (x : PowerOn) (o : Report) → outcome_of x ≡ Some o → o ≡ report x.rules x.geometry (plan x).kind (length (ops_of x)) (is_faulted x) (left_of x)
+pub report_is : (x : PowerOn) (o : Report) → outcome_of x ≡ Some o → o ≡ report x.rules x.geometry (plan x).kind (length (ops_of x)) (is_faulted x) (left_of x)
 unfolding outcome_of
 report_is x o is =
     let left = left_defined x in

@@ -4,3 +4,4 @@ pub mod Standing
 pub mod Loads
 pub mod Written
 pub mod Losing
+pub mod EndsSame

@@ -1,4 +1,4 @@
-use Rattle.mc_tear.proofs.{CasesTorn.{cases_are_torn}, Read.{each_is_read}}
+use Rattle.mc_tear.proofs.{CasesTorn.{cases_are_torn}, EndsProof.{each_ends}, Read.{each_is_read}}
 use Rattle.mc_tear.proofs.law.readings_law.Goals as goal
 
 pub returns-clause-torn : goal.returns-clause-torn
@@ -6,3 +6,6 @@ returns-clause-torn c = cases_are_torn
 
 pub returns-clause-each : goal.returns-clause-each
 returns-clause-each c = each_is_read
+
+pub returns-clause-ends : goal.returns-clause-ends
+returns-clause-ends c = each_ends
