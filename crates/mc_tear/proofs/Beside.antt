@@ -1,13 +1,14 @@
 -- Flashes that differ in one byte of the primary's trailer, at a field or an entry that reads alike.
 use Rattle.std.proofs.{Common.{ap, arith, inl, inr, sym, ◌∙◌}, lemmas.Bool.{cases_eq, cases_lt}, lemmas.List.{length-replicate}}
-use Rattle.std.specs.Prelude.{List, None, Option, Some, length, refl, replicate, suc, zero, ℕ, ◌*◌, ◌+◌, ◌-◌, ◌<◌, ◌≡◌, ◌≢◌, ◌≤◌, ◌⊎◌}
+use Rattle.std.specs.Prelude.{true, List, None, Option, Some, length, refl, replicate, suc, zero, ℕ, ◌*◌, ◌+◌, ◌-◌, ◌<◌, ◌≡◌, ◌≢◌, ◌≤◌, ◌⊎◌}
 use Rattle.mc_boot.proofs.Meets.{same_bytes, same_content, which_slot}
 use Rattle.mc_boot.specs.Plan.{plan, plan_with, power_on}
 use Rattle.mc_flash.specs.{Flash.{Content, IsSized, apply, byte, bytes_of, sectors_of, size_of}, Geometry.{Geometry, IsLayout}, declared.op.Op.{Op}}
 use Rattle.mc_flash.specs.{declared.op.Op.TheVariants.{Copy, Erase, Program}, declared.op.Slot.{Slot}, declared.op.Slot.TheVariants.{Primary, Secondary}}
 use Rattle.mc_flash.specs.facts.{Changes.{Changed, copied, length-copied, program_was_blank, sized_is}, Layouts.{data_before_trailer, data_end, small_unit}}
 use Rattle.mc_tear.proofs.{Alike.{Does, KeepsAlike, Pair}, Lists.{IsSound}, Same.{ChangedBoth, SameAt, copy_both, erase_both, program_both, same_after}, Second.{IsData, same_id, same_images}}
-use Rattle.mc_tear.specs.Laws.{ImagesApart}
+use Rattle.mc_tear.specs.Laws.{AsksApart, ImagesApart}
+use Rattle.mc_trailer.specs.Tables.{is_resumed}
 use Rattle.mc_trailer.specs.{Trailer.{entry_place, flag_of, greatest, highest_entry, is_written, place, room, trailer_of}, declared.places.Field.{Field}, declared.tables.Rules.{Rules}}
 use Rattle.mc_trailer.specs.{declared.trailer.Flag.{Flag}, declared.trailer.Magic.{Magic}, declared.trailer.Trailer.{Trailer}, facts.Entries.{same_entry, written_entry}}
 use Rattle.mc_trailer.specs.facts.Fields.{SameField, same_copy_done, same_image_ok, same_info, same_magic, same_size, same_trailer}
@@ -268,21 +269,30 @@ module _ (g : Geometry) (ok : IsLayout g) (one : One) (written : IsWrittenAt g o
       by Primary i low = is.same.same Primary i (λ _ same. let beyond = written.beyond in omega (arith, low, same, beyond))
       by Secondary i low = is.same.same Secondary i (λ e. absurd cc)
 
-  module _ (apart : ImagesApart g a) (r : Rules) where
-    plans : plan (power_on r g b) ≡ plan (power_on r g a)
+  module _ (r : Rules) where
+    one_plans : AsksApart r g a → plan (power_on r g a) ≡ plan (power_on r g b)
     unfolding plan plan_with
-    plans =
+    one_plans (inl resumed) =
         let highest : highest_entry g b ≡ highest_entry g a = highest_same (3 * g.max_sectors) (omega arith) in
-        rw (primary_same where_, secondary_same, highest, same_images g a b data_same apart) refl
+        let too : is_resumed r.profile g b ≡ true = rw (primary_same where_, secondary_same) resumed in
+        sym (rw (too, resumed, primary_same where_, highest) refl)
+    one_plans (inr apart) =
+        let highest : highest_entry g b ≡ highest_entry g a = highest_same (3 * g.max_sectors) (omega arith) in
+        sym (rw (primary_same where_, secondary_same, highest, same_images g a b data_same apart) refl)
 
-    pub one_pair : Pair r g a b
-    one_pair = record {
-      plan_is = sym plans;
+    one_pair : ImagesApart g a → Pair r g a b
+    one_pair apart = record {
+      plan_is = one_plans (inr apart);
       primary = same_id g a b data_same apart Primary;
       secondary = same_id g a b data_same apart Secondary;
       trailer = sym (primary_same where_);
     }
 
-pub beside_pair : (g : Geometry) → IsLayout g → (one : One) → IsWrittenAt g one → Place g one → (a b : Content) → ImagesApart g a → (r : Rules) → OrSame g one a b → Pair r g a b
-beside_pair g ok one written where_ a b apart r (inl same) = rw same (record { plan_is = refl; primary = refl; secondary = refl; trailer = refl })
-beside_pair g ok one written where_ a b apart r (inr is) = one_pair g ok one written where_ a b is apart r
+module _ (g : Geometry) (ok : IsLayout g) (one : One) (written : IsWrittenAt g one) (where_ : Place g one) (a b : Content) (r : Rules) where
+  pub beside_plans : AsksApart r g a → OrSame g one a b → plan (power_on r g a) ≡ plan (power_on r g b)
+  beside_plans apart (inl same) = ap (λ s. plan (power_on r g s)) same
+  beside_plans apart (inr is) = one_plans g ok one written where_ a b is r apart
+
+  pub beside_pair : ImagesApart g a → OrSame g one a b → Pair r g a b
+  beside_pair apart (inl same) = rw same (record { plan_is = refl; primary = refl; secondary = refl; trailer = refl })
+  beside_pair apart (inr is) = one_pair g ok one written where_ a b is r apart

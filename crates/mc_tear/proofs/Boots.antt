@@ -11,9 +11,9 @@ use Rattle.mc_boot.specs.Plan.{confirms, first_left, images_of, is_revert, new_l
 use Rattle.mc_flash.specs.{Flash.{Content, byte, bytes_of, sectors_of, size_of}, Geometry.{Geometry, IsLayout, greatest_sectors, in_pieces, trailer_sectors}}
 use Rattle.mc_flash.specs.{declared.flash.Grain.{Grain}, declared.op.Op.{Op}, declared.op.Slot.{Slot}, declared.op.Slot.TheVariants.{Primary, Secondary}}
 use Rattle.mc_flash.specs.facts.{Changes.{sized_is}, Layouts.{data_end, data_sectors}, Pieces.{pieces_layout}}
-use Rattle.mc_tear.proofs.{Alike.{KeepsAlike, Pair, RunAlike, end_alike, left_u, run_alike, run_same}, Beside.{IsWrittenAt, One, OrSame, Place, beside_keeps, beside_pair}}
-use Rattle.mc_tear.proofs.{Lists.{InTrailer, IsPlain, IsSound, sound_pieces, plain_pieces, preparation_in, resumed_plain, swap_plain, trailer_sound}, Same.{SameAt}, Second.{SecondAlike, second_keeps, second_pair}}
-use Rattle.mc_tear.specs.Laws.{EndAlike, ImagesApart}
+use Rattle.mc_tear.proofs.{Alike.{KeepsAlike, Pair, RunAlike, end_alike, left_u, run_alike, run_same}, Beside.{IsWrittenAt, One, OrSame, Place, beside_keeps, beside_pair, beside_plans}}
+use Rattle.mc_tear.proofs.{Lists.{InTrailer, IsPlain, IsSound, sound_pieces, plain_pieces, preparation_in, resumed_plain, swap_plain, trailer_sound}, Same.{SameAt}, Second.{SecondAlike, second_keeps, second_pair, second_plans}}
+use Rattle.mc_tear.specs.Laws.{AsksApart, EndAlike, ImagesApart}
 use Rattle.mc_trailer.specs.{Tables.{is_resumed, table_of}, Trailer.{highest_entry, trailer_of}, declared.tables.Rules.{Rules}}
 use Rattle.mc_trailer.specs.{declared.tables.SwapType.{SwapType}, declared.trailer.Flag.{Flag}, declared.trailer.Trailer.{Trailer}}
 use lib.Seq.{take_at}
@@ -183,12 +183,12 @@ module _ (r : Rules) (g : Geometry) (ok : IsLayout g) where
   ok_pieces = pieces_layout r.grain g ok
 
   -- Of the secondary.
-  module _ (a b z : Content) (is : SecondAlike g a b) (left : left_by (power_on r g a) ≡ Some z) (apart : ImagesApart g a) (apart_z : ImagesApart g z) where
+  module _ (a b z : Content) (is : SecondAlike g a b) (left : left_by (power_on r g a) ≡ Some z) (apart : AsksApart r g a) (apart_z : ImagesApart g z) where
     plans_second : plan (power_on r g a) ≡ plan (power_on r g b)
-    plans_second = (second_pair g ok a b is apart r).plan_is
+    plans_second = second_plans g ok a b is r apart
 
     by_plain : AllByRecursion (IsPlain pieces) (plan (power_on r g a)).list → EndAlike (power_on r g a) (power_on r g b)
-    by_plain all = end_alike r g a b (SecondAlike g) plans_second run (second_pair g ok run.end_u run.end_v run.ends ends_apart r)
+    by_plain all = end_alike r g a b (SecondAlike g) plans_second run (second_pair g ok run.end_u run.end_v run.ends r ends_apart)
       where
         run : RunAlike g (SecondAlike g) (plan (power_on r g a)).list a b
         run = run_alike g (SecondAlike g) (plan (power_on r g a)).list
@@ -213,9 +213,9 @@ module _ (r : Rules) (g : Geometry) (ok : IsLayout g) where
 
   -- Of the primary, in one byte.
   module _ (one : One) (written : IsWrittenAt g one) (where_ : Place g one) (a b z : Content) (is : OrSame g one a b)
-      (left : left_by (power_on r g a) ≡ Some z) (apart : ImagesApart g a) (apart_z : ImagesApart g z) where
+      (left : left_by (power_on r g a) ≡ Some z) (apart : AsksApart r g a) (apart_z : ImagesApart g z) where
     plans_first : plan (power_on r g a) ≡ plan (power_on r g b)
-    plans_first = (beside_pair g ok one written where_ a b apart r is).plan_is
+    plans_first = beside_plans g ok one written where_ a b r apart is
 
     all_sound : AllByRecursion (IsSound g) (plan (power_on r g a)).list
     all_sound = all_weaker (IsSound pieces) (IsSound g) (sound_pieces r.grain g) (plan (power_on r g a)).list (by (listed r g a))
@@ -242,4 +242,4 @@ module _ (r : Rules) (g : Geometry) (ok : IsLayout g) where
     beside_ends =
         let same : Some run_first.end_u ≡ Some z = sym (left_u r g a b (OrSame g one) plans_first run_first) ∙ left in
         let ends : run_first.end_u ≡ z = cc in
-        end_alike r g a b (OrSame g one) plans_first run_first (beside_pair g ok one written where_ run_first.end_u run_first.end_v (rw ends apart_z) r run_first.ends)
+        end_alike r g a b (OrSame g one) plans_first run_first (beside_pair g ok one written where_ run_first.end_u run_first.end_v r (rw ends apart_z) run_first.ends)

@@ -14,3 +14,4 @@ pub mod OneOp
 pub mod Opening
 pub mod Midway
 pub mod EndsProof
+pub mod Inside

@@ -9,7 +9,7 @@ use Rattle.mc_flash.specs.facts.{Changes.{Changed, program_was_blank}, Layouts.{
 use Rattle.mc_tear.proofs.{Beside.{Place, copy_done, entry, image_ok}, Boots.{beside_ends, second_ends}, CasesTorn.{cases_are_torn}}
 use Rattle.mc_tear.proofs.{Lists.{InTrailer, trailer_can, trailer_place, writes_flag}, Read.{StandsFor, stands_for}, Second.{SecondAlike}}
 use Rattle.mc_tear.specs.Cases.{slot_of, tearing_of, torn, written_from}
-use Rattle.mc_tear.specs.{Laws.{EndAlike, ImagesApart, IsListed}, declared.torn.Erasing.{Erasing}}
+use Rattle.mc_tear.specs.{Laws.{AsksApart, EndAlike, ImagesApart, IsListed}, declared.torn.Erasing.{Erasing}}
 use Rattle.mc_trailer.specs.{Trailer.{entry_place, flag_of, one_unit, place, trailer_of}, declared.places.Field.{Field}, declared.tables.Rules.{Rules}}
 use Rattle.mc_trailer.specs.{facts.Places.{entry_inside, entry_range, flag_range, one_unit_len}}
 use Rattle.mc_trailer.specs.declared.places.Field.TheVariants as field
@@ -18,7 +18,7 @@ use Rattle.mc_trailer.specs.declared.trailer.Flag.TheVariants as flags
 -- Each flash that the operation may leave, torn where s stands, ends as one of those that stand for all.
 abbrev pub Ends : Erasing → Rules → Geometry → Content → Op → Type 0
 Ends e r g s op =
-    (v z : Content) → IsTorn (tearing_of e) g op s v → left_by (power_on r g v) ≡ Some z → ImagesApart g v → ImagesApart g z
+    (v z : Content) → IsTorn (tearing_of e) g op s v → left_by (power_on r g v) ≡ Some z → AsksApart r g v → ImagesApart g z
     → (u : Content) × IsListed e g op s u × EndAlike (power_on r g v) (power_on r g u)
 
 pub torn_sized : (e : Erasing) (g : Geometry) (op : Op) (s v : Content) → IsSized g s → IsTorn (tearing_of e) g op s v → IsSized g v

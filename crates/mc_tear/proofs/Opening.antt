@@ -1,7 +1,7 @@
 -- A loss of power while the primary's trailer is made: the next boot begins the same swap anew.
 use Rattle.std.proofs.{Common.{ap, arith, inl, inr, subst, sym, ◌∙◌}}
 use Rattle.std.specs.{Int.{div_ceil}}
-use Rattle.std.specs.Prelude.{Some, length, map, refl, take, true, ℕ, ◌<◌, ◌≡◌, ◌≤◌, ⊤}
+use Rattle.std.specs.Prelude.{false, Some, length, map, refl, take, true, ℕ, ◌<◌, ◌≡◌, ◌≤◌, ⊤}
 use Rattle.mc_boot.proofs.{CourseJoins.{trailer_of_slot}, Meets.{erase_of, which_slot}, Phases.{new_is, new_swap_is, starting}}
 use Rattle.mc_boot.specs.Plan.{Plan, images_of, new_swap, plan, power_on}
 use Rattle.mc_boot.specs.{Torn.{IsTorn}, declared.image.Images.{Images}}
@@ -10,9 +10,10 @@ use Rattle.mc_flash.specs.{declared.op.Slot.{Slot}, declared.op.Slot.TheVariants
 use Rattle.mc_flash.specs.facts.{Changes.{Changed, changed_sized}, Layouts.{data_end}}
 use Rattle.mc_tear.proofs.{Boots.{erased_ends, trailer_blank, trailer_first}, Lists.{InTrailer, trailer_can, trailer_place}, OneOp.{Ends, torn_sized}}
 use Rattle.mc_tear.proofs.{Read.{torn_out}, Same.{SameAt}, Second.{IsData, same_images}, Whole.{whole_is, written}}
+use Rattle.mc_tear.specs.Laws.{AsksApart, EndAlike, IsListed}
 use Rattle.mc_tear.specs.Cases.{slot_of, tearing_of, written_from}
 use Rattle.mc_tear.specs.{declared.torn.Erasing.{Erasing}}
-use Rattle.mc_trailer.specs.{Trailer.{trailer_of}, declared.tables.Rules.{Rules}, declared.tables.SwapType.{SwapType}}
+use Rattle.mc_trailer.specs.{Tables.{is_resumed}, Trailer.{trailer_of}, declared.tables.Rules.{Rules}, declared.tables.SwapType.{SwapType}}
 use Rattle.mc_trailer.specs.{declared.trailer.Flag.{Flag}, declared.trailer.Trailer.{Trailer}, facts.Fields.{same_trailer}, facts.Tables.{asks_clearly}}
 use Rattle.mc_trailer.specs.declared.tables.SwapType.TheVariants as kinds
 use Rattle.mc_trailer.specs.declared.trailer.Flag.TheVariants as flags
@@ -102,13 +103,19 @@ module _ (r : Rules) (g : Geometry) (start : Content) (begin : CanBegin g start)
   erases_first flags.Bad clear s is = absurd clear
 
   module _ (e : Erasing) (ok : IsLayout g) (flag : Flag) (clear : IsClear flag) (s : Content) (asks : Asks g start flag s) where
+    -- It does not go on with a swap.
+    not_resumed : (v : Content) → (trailer_of g v Secondary).magic ≡ magics.Good → (trailer_of g v Secondary).image_ok ≡ flag → is_resumed r.profile g v ≡ true → ⊥
+    not_resumed v magic image_ok resumed =
+        let another = asks_clearly r.profile (trailer_of g v Primary) (trailer_of g v Secondary) magic (λ bad. absurd (clear_not flag clear (sym image_ok ∙ bad))) in
+        let no_ : false ≡ true = sym (rw another (grind arith)) ∙ resumed in absurd cc
+      where
+        clear_not : (f : Flag) → IsClear f → f ≡ flags.Bad → ⊥
+        clear_not flags.Set is e = absurd cc
+        clear_not flags.Unset is e = absurd cc
+        clear_not flags.Bad is e = is
+
     pub opening_op : (op : Op) → InTrailer g Primary op → Ends e r g s op
-    opening_op op inside v z torn_v left apart apart_z = (
-      s,
-      inl refl,
-      erased_ends r g v s (trailer_of_slot g Primary) (plans_v ∙ sym plans_s) (erases_first flag clear v plans_v)
-          (trailer_blank g Primary v s ok (same_back g (λ o i. o ≡ Primary → i < data_end g Primary) s v kept)),
-    )
+    opening_op op inside v z torn_v left asks_apart apart_z = by asks_apart
       where
         kept : SameAt g (λ o i. o ≡ Primary → i < data_end g Primary) s v
         kept = torn_keeps e g Primary op s v ok asks.data_.sized_v inside torn_v
@@ -116,20 +123,27 @@ module _ (r : Rules) (g : Geometry) (start : Content) (begin : CanBegin g start)
         second : trailer_of g v Secondary ≡ trailer_of g s Secondary
         second = same_trailer g s v Secondary ok kept.sized_u kept.sized_v (λ f i within. kept.same Secondary _ (λ is. absurd cc))
 
+        magic_v : (trailer_of g v Secondary).magic ≡ magics.Good
+        magic_v = ap (λ (x : Trailer). x.magic) second ∙ asks.magic
+
+        image_ok_v : (trailer_of g v Secondary).image_ok ≡ flag
+        image_ok_v = ap (λ (x : Trailer). x.image_ok) second ∙ asks.image_ok
+
         data_v : SameAt g (IsData g) s v
         data_v = data_kept g Primary s v kept
 
-        images_s : images_of s ≡ images_of v
-        images_s = same_images g v s (same_back g (IsData g) s v data_v) apart
-
-        images_start : images_of start ≡ images_of v
-        images_start = same_images g v start (same_back g (IsData g) start v (same_both g (IsData g) start s v asks.data_ data_v)) apart
-
-        plans_s : plan (power_on r g s) ≡ starting r.grain g (asked_kind flag) (images_of start).size (div_ceil (images_of start).size g.sector)
-        plans_s = plan_of flag clear s asks.magic asks.image_ok (images_s ∙ sym images_start)
-
-        plans_v : plan (power_on r g v) ≡ starting r.grain g (asked_kind flag) (images_of start).size (div_ceil (images_of start).size g.sector)
-        plans_v = plan_of flag clear v (ap (λ (x : Trailer). x.magic) second ∙ asks.magic) (ap (λ (x : Trailer). x.image_ok) second ∙ asks.image_ok) (sym images_start)
+        by : AsksApart r g v → (u : Content) × IsListed e g op s u × EndAlike (power_on r g v) (power_on r g u)
+        by (inl resumed) = absurd (not_resumed v magic_v image_ok_v resumed)
+        by (inr apart) =
+            let images_s = same_images g v s (same_back g (IsData g) s v data_v) apart in
+            let images_start = same_images g v start (same_back g (IsData g) start v (same_both g (IsData g) start s v asks.data_ data_v)) apart in
+            let plans_s = plan_of flag clear s asks.magic asks.image_ok (images_s ∙ sym images_start) in
+            let plans_v = plan_of flag clear v magic_v image_ok_v (sym images_start) in (
+              s,
+              inl refl,
+              erased_ends r g v s (trailer_of_slot g Primary) (plans_v ∙ sym plans_s) (erases_first flag clear v plans_v)
+                  (trailer_blank g Primary v s ok (same_back g (λ o i. o ≡ Primary → i < data_end g Primary) s v kept)),
+            )
 
     pub asks_still : (op : Op) → InTrailer g Primary op → (t : Content) → apply g op s ≡ Some t → Asks g start flag t
     asks_still op inside t is =

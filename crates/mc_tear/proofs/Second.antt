@@ -8,7 +8,7 @@ use Rattle.mc_flash.specs.{declared.op.Op.TheVariants.{Copy, Erase, Program}, de
 use Rattle.mc_flash.specs.facts.{Changes.{Changed, copied, length-copied, sized_is}, Layouts.{data_before_trailer, data_end, trailer_leaves_one}}
 use Rattle.mc_image.specs.Valid.{id_of}
 use Rattle.mc_tear.proofs.{Alike.{KeepsAlike, Pair, valid_by_id}, Lists.{IsPlain}, Same.{ChangedBoth, SameAt, copy_both, erase_both, program_both, same_after}}
-use Rattle.mc_tear.specs.Laws.{ImagesApart}
+use Rattle.mc_tear.specs.Laws.{AsksApart, ImagesApart}
 use Rattle.mc_trailer.specs.{Tables.{is_resumed, resumes_by, swap_type, table_of}, Trailer.{highest_entry, place, room, trailer_of}, declared.places.Field.{Field}, declared.tables.Profile.{Profile}}
 use Rattle.mc_trailer.specs.{declared.tables.Rules.{Rules}, declared.trailer.Trailer.{Trailer}}
 use Rattle.mc_trailer.specs.facts.Fields.{SameField, reads_absent, reads_image_ok, same_image_ok, same_magic, same_trailer, trailer_kept, trailer_kept_elsewhere}
@@ -69,21 +69,25 @@ module _ (g : Geometry) (ok : IsLayout g) (a b : Content) (is : SecondAlike g a 
       by Primary i low = is.same.same Primary i (λ e. absurd cc)
       by Secondary i low = is.same.same Secondary i (λ _. low)
 
-  module _ (apart : ImagesApart g a) (r : Rules) where
-    plans : plan (power_on r g b) ≡ plan (power_on r g a)
-    unfolding plan plan_with
-    plans =
-        let resumes : is_resumed r.profile g b ≡ is_resumed r.profile g a =
+  module _ (r : Rules) where
+    resumes : is_resumed r.profile g b ≡ is_resumed r.profile g a
+    resumes =
         ap (λ (p : Trailer). resumes_by r.profile p (trailer_of g b Secondary)) trailer_same
-        ∙ resumes_alike r.profile (trailer_of g a Primary) (trailer_of g a Secondary) (trailer_of g b Secondary) is.magic is.image_ok in
-        let types : table_of r.profile g b ≡ table_of r.profile g a =
-        ap (λ (p : Trailer). swap_type r.profile p (trailer_of g b Secondary)) trailer_same
-        ∙ type_alike r.profile (trailer_of g a Primary) (trailer_of g a Secondary) (trailer_of g b Secondary) is.magic is.image_ok in
-        rw (resumes, types, trailer_same, highest_same, same_images g a b data_same apart) refl
+        ∙ resumes_alike r.profile (trailer_of g a Primary) (trailer_of g a Secondary) (trailer_of g b Secondary) is.magic is.image_ok
 
-    pub second_pair : Pair r g a b
-    second_pair = record {
-      plan_is = sym plans;
+    types : table_of r.profile g b ≡ table_of r.profile g a
+    types =
+        ap (λ (p : Trailer). swap_type r.profile p (trailer_of g b Secondary)) trailer_same
+        ∙ type_alike r.profile (trailer_of g a Primary) (trailer_of g a Secondary) (trailer_of g b Secondary) is.magic is.image_ok
+
+    pub second_plans : AsksApart r g a → plan (power_on r g a) ≡ plan (power_on r g b)
+    unfolding plan plan_with
+    second_plans (inl resumed) = sym (rw (resumes ∙ resumed, resumed, trailer_same, highest_same) refl)
+    second_plans (inr apart) = sym (rw (resumes, types, trailer_same, highest_same, same_images g a b data_same apart) refl)
+
+    pub second_pair : ImagesApart g a → Pair r g a b
+    second_pair apart = record {
+      plan_is = second_plans (inr apart);
       primary = same_id g a b data_same apart Primary;
       secondary = same_id g a b data_same apart Secondary;
       trailer = sym trailer_same;

@@ -1,10 +1,10 @@
 -- What the readings of a torn operation stand for, among all that it may leave.
-use Rattle.std.specs.Prelude.{Bool, List, Option, Some, length, not, option_map, slice_get, slice_index, true, ℕ, ◌<◌, ◌≡◌, ◌⊎◌}
+use Rattle.std.specs.Prelude.{Bool, List, Option, Some, length, not, option_map, slice_get, slice_index, true, ℕ, ◌<◌, ◌≡◌, ◌≤◌, ◌⊎◌}
 use Rattle.mc_boot.specs.{Life.{is_at_rest}, Outcome.{at, left_by, ops_of, outcome_of}, Plan.{PowerOn, again, image_size}, Torn.{IsTorn}}
 use Rattle.mc_flash.specs.{Flash.{CanTry, Content, IsSized, apply, byte, bytes_of, is_blank}, Geometry.{Geometry, IsLayout}, declared.op.Op.{Op}}
 use Rattle.mc_flash.specs.{declared.op.Slot.{Slot}, declared.op.Slot.TheVariants.{Primary}, facts.Layouts.{data_end}}
-use Rattle.mc_image.specs.Valid.{id_of}
-use Rattle.mc_trailer.specs.Trailer.{bytes_at, trailer_of}
+use Rattle.mc_image.specs.{Image.{IsBytes}, Valid.{Identity, id_of}}
+use Rattle.mc_trailer.specs.{Tables.{is_resumed}, Trailer.{bytes_at, trailer_of}, declared.tables.Rules.{Rules}}
 use Rattle.mc_tear.specs.Cases.{fields_of, if_named, is_case, names, reads_as, slot_of, tearing_of, torn, written_from}
 use Rattle.mc_tear.specs.{Readings.{reading_of}, declared.reading.Entry.{Entry}, declared.reading.Reading.{Reading}, declared.torn.Erasing.{Erasing}}
 use Rattle.mc_tear.specs.declared.reading.Entry.TheVariants as entries
@@ -63,12 +63,26 @@ ImagesApart g s =
     → ((i : ℕ) → i < data_end g slot → slice_index bytes i ≡ byte s slot i)
     → (id_of bytes ≡ id_of (bytes_of s slot)) × (image_size bytes ≡ image_size (bytes_of s slot))
 
+-- Where the boot from a flash goes on with a swap, it asks for no image; elsewhere none depends on a trailer.
+abbrev pub AsksApart : Rules → Geometry → Content → Type 0
+AsksApart r g v = (is_resumed r.profile g v ≡ true) ⊎ ImagesApart g v
+
+-- Each slot begins with a valid image that ends before the sectors of its trailer.
+abbrev pub ImagesInside : Geometry → Content → Type 0
+ImagesInside g s =
+    (slot : Slot) → IsBytes (bytes_of s slot)
+    × ((i : Identity) × (id_of (bytes_of s slot) ≡ Some i) × (i.size ≤ data_end g slot))
+
+-- Such images depend on no trailer.
+abbrev pub InsideIsApart : Type 0
+InsideIsApart = (g : Geometry) (s : Content) → IsLayout g → IsSized g s → ImagesInside g s → ImagesApart g s
+
 -- Each flash that a torn operation of a boot may leave ends as one of those that stand for all, whatever flash the boot began with, if
--- no image depends on a trailer there and in what is left at the end.
+-- no image that is asked for there, or in what is left at the end, depends on a trailer.
 abbrev pub EachEnds : Type 0
 EachEnds =
     (e : Erasing) (x : PowerOn) (n : ℕ) (op : Op) (s v z : Content)
     → IsLayout x.geometry → IsSized x.geometry x.content
     → slice_get (ops_of x) n ≡ Some op → at x n ≡ Some s → IsTorn (tearing_of e) x.geometry op s v
-    → left_by (again x v) ≡ Some z → ImagesApart x.geometry v → ImagesApart x.geometry z
+    → left_by (again x v) ≡ Some z → AsksApart x.rules x.geometry v → ImagesApart x.geometry z
     → (u : Content) × IsListed e x.geometry op s u × EndAlike (again x v) (again x u)

@@ -1,12 +1,18 @@
 //! What the readings of a torn operation stand for.
-ghost use Rattle.mc_tear.specs.Laws.{CasesAreTorn, EachEnds, EachIsRead};
+ghost use Rattle.mc_tear.specs.Laws.{CasesAreTorn, EachEnds, EachIsRead, InsideIsApart};
+
+use mc_image::same_prefix;
 
 /// The law of readings: the flash of a case is one that the torn operation may leave (`torn`), and each flash that it may leave is read
 /// as one of the readings says, and so is the flash of that reading (`each`): that reading is a case, or its flash is that of the
 /// finished operation. And the boot from each flash that a torn operation of a boot may leave ends as the boot from a case, or as after a
-/// power cut before the operation or behind it, whatever flash the torn boot began with, if no image depends on a trailer (`ends`).
+/// power cut before the operation or behind it, whatever flash the torn boot began with, if no image that is asked for depends on a trailer
+/// (`ends`); valid images that end before the trailers' sectors depend on none (`inside`).
 pub fn readings_law()
     ensures torn { CasesAreTorn }
     ensures each { EachIsRead }
     ensures ends { EachEnds }
-{}
+    ensures inside { InsideIsApart }
+{
+    same_prefix();
+}

@@ -4,7 +4,7 @@ use Rattle.std.specs.Prelude.{Bool, List, None, Option, Some, [], codes, decimal
 use Rattle.mc_boot.specs.{Outcome.{left_by, ops_of}, Plan.{PowerOn, again}, Torn.{IsTorn}}
 use Rattle.mc_explore.specs.{Boots.{at_cut}}
 use Rattle.mc_flash.specs.{Flash.{Content, IsSized}, Geometry.{IsLayout}, declared.op.Op.{Op}}
-use Rattle.mc_tear.specs.{Cases.{cases_of, is_case, tearing_of, torn}, Laws.{ImagesApart}, Readings.{reading_text}, declared.reading.Reading.{Reading}, declared.torn.Erasing.{Erasing}}
+use Rattle.mc_tear.specs.{Cases.{cases_of, is_case, tearing_of, torn}, Laws.{AsksApart, ImagesApart}, Readings.{reading_text}, declared.reading.Reading.{Reading}, declared.torn.Erasing.{Erasing}}
 use Rattle.mc_tears.specs.{Ends.{Ending, are_alike, end_of, end_text, ends_right}, declared.cases.Asked.{Asked}}
 
 -- How the boot ends after a power cut before operation n of the boot from x.
@@ -91,11 +91,12 @@ IsListedEnd e x n op end =
     ⊎ ((end ≡ cut_end x (n + 1))
     ⊎ ((r : Reading) × (is_case e x.geometry op (at_cut x n) r ≡ true) × (end ≡ case_end e x n op r)))
 
--- Each flash that a torn operation of a boot may leave ends so, if no image depends on a trailer there and in what is left at the end.
+-- Each flash that a torn operation of a boot may leave ends so, if no image that is asked for there, or in what is left at the end,
+-- depends on a trailer.
 abbrev pub EachTornEnds : Type 0
 EachTornEnds =
     (e : Erasing) (x : PowerOn) (n : ℕ) (op : Op) (v z : Content)
     → IsLayout x.geometry → IsSized x.geometry x.content
     → slice_get (ops_of x) n ≡ Some op → IsTorn (tearing_of e) x.geometry op (at_cut x n) v
-    → left_by (again x v) ≡ Some z → ImagesApart x.geometry v → ImagesApart x.geometry z
+    → left_by (again x v) ≡ Some z → AsksApart x.rules x.geometry v → ImagesApart x.geometry z
     → IsListedEnd e x n op (end_of (again x v))
