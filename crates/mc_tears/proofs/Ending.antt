@@ -8,7 +8,7 @@ use Rattle.mc_explore.specs.inner.OneRound.{IsSummary}
 use Rattle.mc_flash.specs.Flash.{Content}
 use Rattle.mc_tears.specs.Ends.{end_of, is_busy, left_of, shown_end}
 use Rattle.mc_tears.specs.Tears.{cut_end}
-use Rattle.mc_tears.specs.{declared.end.Whole.{Whole}, inner.Standing.{IsWhole}}
+use Rattle.mc_tears.specs.{declared.end.Whole.{Whole}, inner.Standing.{IsWhole, LeavesBytes}}
 
 pub left_is : (x : PowerOn) (z : Content) → left_by x ≡ Some z → left_of x ≡ z
 left_is x z is = ap (content_or x.content) is
@@ -40,6 +40,11 @@ pub derived_end : (x : PowerOn) (n : ℕ) (whole : Whole) (summary : Summary) �
     → shown_end (record { outcome = summary.outcome; busy = whole.busy }) ≡ cut_end x n
 derived_end x n whole summary is there same =
     end_is (again x (at_cut x n)) summary.outcome whole.busy there.outcome_is (is.busy ∙ ap (is_busy x.geometry) (sym (left_same x (again x (at_cut x n)) same)))
+
+pub derived_bytes : (x : PowerOn) (n : ℕ) → left_by (boots.child x n) ≡ left_by x → LeavesBytes x → LeavesBytes (again x (at_cut x n))
+derived_bytes x n same is =
+    let left = left_same x (again x (at_cut x n)) same in
+    record { sized = rw left is.sized; primary = rw left is.primary; secondary = rw left is.secondary }
 
 -- Before the first operation nothing has changed.
 pub first_end : (x : PowerOn) → end_of x ≡ cut_end x 0

@@ -1,14 +1,14 @@
 -- Each flash that a torn operation of a boot may leave ends as a case of it, or as after a cut.
 use Rattle.std.proofs.{Common.{add-one, ap, inl, inr, sym, ◌∙◌}, Math.Seq.{take-suc}, lemmas.Option.{get_or_from_slice_get, same_Some, slice_get_within}}
-use Rattle.std.specs.Prelude.{Bool, List, Option, Some, [], not, option_and_then, option_map, refl, slice_get, take, ℕ, ◌++◌, ◌+◌, ◌∷◌, ◌≡◌, ◌⊎◌}
+use Rattle.std.specs.Prelude.{Bool, List, Some, [], option_and_then, option_map, refl, slice_get, take, ℕ, ◌++◌, ◌+◌, ◌∷◌, ◌≡◌}
 use Rattle.mc_boot.proofs.Joins.{applied_beyond}
-use Rattle.mc_boot.specs.{Life.{is_at_rest}, Outcome.{applied, at, left_by, ops_of, outcome_of}, Plan.{PowerOn, again}, facts.Run.{left_defined, outcome_defined}}
+use Rattle.mc_boot.specs.{Life.{is_at_rest}, Outcome.{applied, at, ops_of}, Plan.{PowerOn, again}, facts.Run.{left_defined, outcome_defined}}
 use Rattle.mc_explore.specs.{Boots.{at_cut}, facts.Occurring.{at_is, lands_at}}
-use Rattle.mc_flash.specs.{Flash.{Content, apply}, Geometry.{Geometry}, declared.op.Op.{Op}, declared.op.Slot.TheVariants.{Primary}}
+use Rattle.mc_flash.specs.{Flash.{Content, apply}, declared.op.Op.{Op}, declared.op.Slot.TheVariants.{Primary}}
 use Rattle.mc_tear.proofs.EndsProof.{each_ends}
-use Rattle.mc_tear.specs.{Laws.{EndAlike, IsListed, rests}, declared.torn.Erasing.{Erasing}}
+use Rattle.mc_tear.specs.{Laws.{EndAlike, IsListed, rests}}
 use Rattle.mc_tears.proofs.Ending.{left_is, report_is}
-use Rattle.mc_tears.specs.{Ends.{Ending, end_of, left_of}, Tears.{EachTornEnds, IsListedEnd, case_end, cut_end}}
+use Rattle.mc_tears.specs.{Ends.{end_of, left_of}, Tears.{EachTornEnds, IsListedEnd, case_end}}
 use Rattle.mc_trailer.specs.Trailer.{trailer_of}
 
 rests_is : (x : PowerOn) → rests x ≡ Some (is_at_rest (trailer_of x.geometry (left_of x) Primary))
@@ -18,7 +18,7 @@ rests_is x =
     ap (option_map told) left.1 ∙ ap (λ z. Some (told z)) (sym (left_is x left.0 left.1))
 
 -- Boots that end alike have one end.
-end_same : (x y : PowerOn) → EndAlike x y → end_of x ≡ end_of y
+pub end_same : (x y : PowerOn) → EndAlike x y → end_of x ≡ end_of y
 unfolding end_of
 end_same x y alike =
     let o = outcome_defined x in
@@ -27,7 +27,7 @@ end_same x y alike =
     rw (reports, rest) refl
 
 -- What a whole operation makes stands behind it.
-next_is : (x : PowerOn) (n : ℕ) (op : Op) (u : Content) → slice_get (ops_of x) n ≡ Some op → apply x.geometry op (at_cut x n) ≡ Some u → u ≡ at_cut x (n + 1)
+pub next_is : (x : PowerOn) (n : ℕ) (op : Op) (u : Content) → slice_get (ops_of x) n ≡ Some op → apply x.geometry op (at_cut x n) ≡ Some u → u ≡ at_cut x (n + 1)
 unfolding at
 next_is x n op u next made = lands_at x u (n + 1)
     (ap (λ (ops : List Op). applied x.geometry ops x.content) more

@@ -5,3 +5,4 @@ pub mod Loads
 pub mod Written
 pub mod Losing
 pub mod EndsSame
+pub mod AsWhole

@@ -70,6 +70,7 @@ module _ (f h : Seen) (back : IsBack f h) where
     applies = applies_back b.op s.applies;
     before = s.before;
     after = s.after;
+    bytes = s.bytes;
     room = room_back (case_counts x) s.room;
   }
 

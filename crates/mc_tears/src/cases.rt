@@ -9,8 +9,9 @@ ghost use Rattle.mc_tear.specs.inner.Room.{Applies, tear_counts};
 ghost use Rattle.mc_tears.specs.Ends.{end_of, shown_end};
 ghost use Rattle.mc_tears.specs.Tears.{line_text, op_right, op_text, told_text};
 ghost use Rattle.mc_tears.specs.declared.error.TearError.TheVariants as errors;
-ghost use Rattle.mc_tears.specs.inner.Standing.{Goes, Returns, StandsBefore, WritesText, case_counts, reading_right, reading_text_at};
+ghost use Rattle.mc_tears.specs.inner.Standing.{EndsAfter, Goes, Returns, StandsBefore, WritesText, case_counts, reading_right, reading_text_at};
 
+use crate::as_whole::ends_as_whole;
 use crate::end::{End, run};
 use crate::error::TearError;
 use mc_explore::{Expectation, OneRound};
@@ -52,6 +53,7 @@ fn end_from<F: Flash>(
     op: &Op,
     bytes: &[u8],
     before: &End,
+    after: &End,
 ) -> Result<End, AllocError>
     requires layout { (F.seen flash.old).geometry ≡ (begins rounds.now).geometry }
     requires applies { Applies op.now (F.seen flash.old) }
@@ -59,12 +61,16 @@ fn end_from<F: Flash>(
     requires room { HasRoom (case_counts (begins rounds.now)) (F.seen flash.old) }
     requires before { shown_end before.now
         ≡ end_of (again (begins rounds.now) (F.seen flash.old).content) }
+    requires after { EndsAfter (begins rounds.now) op.now (F.seen flash.old) after.now }
     ensures end { let f = F.seen flash.old in IfOk result (λ end. shown_end end
         ≡ end_of (again (begins rounds.now) (put_in f.geometry op.now f.content bytes.now))) }
     ensures returns { Returns (F.seen flash.old) result (F.seen flash.new) }
 {
     if is_there(flash, op, bytes) {
         return Ok(*before);
+    }
+    if ends_as_whole(rounds, flash, op, bytes, after) {
+        return Ok(*after);
     }
     let here = flash.mark()?;
     put_torn(flash, op, bytes)?;
@@ -154,7 +160,8 @@ fn write_case<F: Flash, W: Write>(
     if !is_case(flash, &between.op, asked.erasing, fields, reading, buffer)? {
         return Ok(true);
     }
-    let end = end_from(rounds, flash, &between.op, buffer, &between.before)?;
+    let (before, after) = (&between.before, &between.after);
+    let end = end_from(rounds, flash, &between.op, buffer, before, after)?;
     tell(between, asked, reading, &end, writer)?;
     Ok(end.is_right(&asked.expectation))
 }

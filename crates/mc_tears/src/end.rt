@@ -9,6 +9,7 @@ ghost use Rattle.mc_tears.specs.inner.Standing.{IsWhole, Returns};
 use mc_boot::{ImageId, Outcome};
 use mc_explore::{Expectation, Labels, OneRound, Summary, put_outcome, put_slots};
 use mc_flash::{Flash, Slot};
+use mc_image::are_bytes;
 use mc_output::{Line, MOST_LINE};
 use mc_trailer::{Flag, Magic, Trailer};
 use std::alloc::AllocError;
@@ -67,6 +68,9 @@ pub(crate) fn run<F: Flash>(rounds: &OneRound<'_>, flash: &mut F) -> Result<Whol
     let boot = rounds.boot(flash);
     let summary = rounds.run(flash, boot)?;
     let busy = is_busy(flash);
+    // What is left is known to be bytes, as many as the slots have.
+    are_bytes(flash.read(Slot::Primary));
+    are_bytes(flash.read(Slot::Secondary));
     Ok(Whole { summary, busy })
 }
 

@@ -1,6 +1,7 @@
 //! What the torn operations of a boot lead to: how the boot from each flash that can be told apart ends.
 #![tactic(auto)]
 
+mod as_whole;
 mod case_flash;
 mod cases;
 mod end;

@@ -3,6 +3,8 @@ ghost use Rattle.std.specs.Prelude.{◌≡◌, ◌+◌, ◌<◌, Some, slice_get
 ghost use Rattle.std.specs.Io.KnownBytes.{Appends};
 ghost use Rattle.std.specs.Vec.{vec_capacity};
 ghost use Rattle.mc_boot.specs.Outcome.{ops_of};
+ghost use Rattle.mc_boot.specs.Plan.{again};
+ghost use Rattle.mc_explore.specs.Boots.{at_cut};
 ghost use Rattle.mc_explore.specs.inner.OneRound.{begins};
 ghost use Rattle.mc_output.specs.Text.{AppendsPrefix};
 ghost use Rattle.mc_start.specs.Start.{begun};
@@ -10,7 +12,7 @@ ghost use Rattle.mc_tear.specs.inner.Room.{Applies};
 ghost use Rattle.mc_tears.specs.Ends.{shown_end};
 ghost use Rattle.mc_tears.specs.Tears.{all_right, counts_text, cut_end, lines_text, number_count, numbers, tears_text};
 ghost use Rattle.mc_tears.specs.declared.error.TearError.TheVariants as errors;
-ghost use Rattle.mc_tears.specs.inner.Standing.{CanMark, HoldsSlot, IsWhole, Returns, Stands, WritesText};
+ghost use Rattle.mc_tears.specs.inner.Standing.{CanMark, HoldsSlot, IsWhole, LeavesBytes, Returns, Stands, WritesText};
 
 use crate::cases::{Asked, Between, count_cases, write_cases};
 use crate::end::{End, Whole, run_and_return};
@@ -80,6 +82,8 @@ fn end_at<F: Flash>(
     requires stands { Stands (begins rounds.now) at.now (F.seen flash.old) }
     requires marks { CanMark 1 (F.seen flash.old) }
     ensures end { IfOk result (λ end. shown_end end ≡ cut_end (begins rounds.now) at.now.done) }
+    ensures bytes { let x = begins rounds.now in OnOk result
+        (LeavesBytes (again x (at_cut x at.now.done))) }
     ensures returns { Returns (F.seen flash.old) result (F.seen flash.new) }
 {
     if at.count() < whole.summary.outcome.ops {
@@ -106,6 +110,8 @@ fn end_after<F: Flash>(
     requires early { at.now.done < length (ops_of (begins rounds.now)) }
     ensures end { IfOk result (λ end. shown_end end
         ≡ cut_end (begins rounds.now) (at.now.done + 1)) }
+    ensures bytes { let x = begins rounds.now in OnOk result
+        (LeavesBytes (again x (at_cut x (at.now.done + 1)))) }
     ensures returns { Returns (F.seen flash.old) result (F.seen flash.new) }
 {
     let here = flash.mark()?;

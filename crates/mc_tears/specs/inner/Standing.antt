@@ -1,21 +1,29 @@
 -- Where the boot from a start has come to, and what is known of it.
-use Rattle.std.specs.{Io.KnownBytes.{Appends}, Prelude.{Bool, Err, List, Ok, Option, Result, Some, [], false, if◌then◌else◌, length, slice_get, true, ℕ, ⊤, ◌+◌, ◌≡◌, ◌≤◌}}
-use Rattle.mc_boot.specs.{Boot.{left_of, progress}, Outcome.{ops_of}, Plan.{PowerOn}, declared.boot.Boot.{Boot}}
+use Rattle.std.specs.{Io.KnownBytes.{Appends}, Prelude.{Bool, Err, List, Ok, Option, Result, Some, [], drop, false, if◌then◌else◌, length, slice_get, slice_index, true, ℕ, ⊤, ◌+◌, ◌<◌, ◌≡◌, ◌≢◌, ◌≤◌}}
+use Rattle.mc_boot.specs.{Boot.{left_of, progress}, Outcome.{ops_of}, Plan.{PowerOn, again}, declared.boot.Boot.{Boot}}
 use Rattle.mc_explore.specs.{Boots.{at_cut}, inner.OneRound.{IsSummary, most_of, one_round}}
-use Rattle.mc_flash.specs.{Flash.{size_of}, Geometry.{Geometry, IsLayout}, Usage.{Allows, Counts, HasRoom, Keeps, LeaveRoom, Seen, Stays, no_counts, plus}}
+use Rattle.mc_flash.specs.{Flash.{Content, IsSized, apply, size_of}, Geometry.{Geometry, IsLayout}, Usage.{Allows, Counts, HasRoom, Keeps, LeaveRoom, Seen, Stays, no_counts, plus}}
 use Rattle.mc_flash.specs.{declared.op.Op.{Op}, declared.op.Slot.{Slot}}
+use Rattle.mc_image.specs.Image.{IsBytes}
 use Rattle.mc_output.specs.Text.{AppendsPrefix}
 use Rattle.mc_tear.specs.{Cases.{is_case, torn}, declared.reading.Reading.{Reading}, declared.torn.Erasing.{Erasing}, inner.Room.{Applies, tear_counts}}
-use Rattle.mc_tears.specs.Ends.{ends_right, is_busy, left_of as left, shown_end}
+use Rattle.mc_tears.specs.Ends.{end_of, ends_right, is_busy, left_of as left, shown_end}
 use Rattle.mc_tears.specs.Tears.{case_end, case_text, cut_end}
-use Rattle.mc_tears.specs.{declared.cases.Asked.{Asked}, declared.cases.Between.{Between}, declared.end.Whole.{Whole}, declared.error.TearError.{TearError}}
+use Rattle.mc_tears.specs.{declared.cases.Asked.{Asked}, declared.cases.Between.{Between}, declared.end.End.{End}, declared.end.Whole.{Whole}, declared.error.TearError.{TearError}}
 use Rattle.mc_tears.specs.declared.error.TearError.TheVariants as errors
 use Rattle.mc_walk.specs.TreeModel.{IsAt}
+
+-- What the boot from x leaves has the slots' lengths, and is made of bytes.
+pub record LeavesBytes (x : PowerOn) : Type 0 where
+  pub sized : IsSized x.geometry (left x)
+  pub primary : IsBytes (left x).primary
+  pub secondary : IsBytes (left x).secondary
 
 -- The boot from x was run: its summary, and whether what it leaves says that a swap is under way.
 pub record IsWhole (x : PowerOn) (whole : Whole) : Type 0 where
   pub summary : IsSummary x whole.summary
   pub busy : whole.busy ≡ is_busy x.geometry (left x)
+  pub bytes : LeavesBytes x
 
 -- Torn bytes are put in, and a boot is run.
 abbrev pub case_counts : PowerOn → Counts
@@ -33,6 +41,7 @@ pub record StandsBefore (x : PowerOn) (b : Between) (f : Seen) : Type 0 where
   pub applies : Applies b.op f
   pub before : shown_end b.before ≡ cut_end x b.number
   pub after : shown_end b.after ≡ cut_end x (b.number + 1)
+  pub bytes : LeavesBytes (again x (at_cut x (b.number + 1)))
   pub room : HasRoom (case_counts x) f
 
 -- The boot from x has come so far, and the flash stands there. There is room for what it has left, and for a case.
@@ -92,3 +101,15 @@ pub record Puts (e : Erasing) (op : Op) (r : Reading) (old new : Seen) (is : Boo
   pub keeps : Keeps old new
   pub limits : new.usage.limits ≡ old.usage.limits
   pub counts : LeaveRoom new.usage.counts no_counts (plus old.usage.counts (tear_counts old.geometry))
+
+-- How the boot ends from where the whole operation was made, and that what it leaves is made of bytes.
+abbrev pub EndsAfter : PowerOn → Op → Seen → End → Type 0
+EndsAfter x op f end = (u : Content) → apply f.geometry op f.content ≡ Some u → (shown_end end ≡ end_of (again x u)) × LeavesBytes (again x u)
+
+-- Bytes that differ in the first alone, which is 0xff in neither.
+pub record DifferFirst (xs ys : List ℕ) : Type 0 where
+  pub first : slice_index xs 0 ≢ 255
+  pub second : slice_index ys 0 ≢ 255
+  pub some : 0 < length xs
+  pub rest : drop 1 xs ≡ drop 1 ys
+  pub long : length xs ≡ length ys

@@ -4,6 +4,7 @@ use Rattle.mc_explore.specs.inner.OneRound.{begins}
 use Rattle.mc_output.specs.Text.{AppendsPrefix}
 use Rattle.mc_tear.proofs.Ranges.{torn_len}
 use Rattle.mc_tear.specs.Cases.{written_len}
+use Rattle.mc_tears.proofs.AsWhole.{ends_after}
 use Rattle.mc_tears.proofs.Written.{case_is, ends_so, no_right, no_text, none_out, right_is, told_is}
 use Rattle.mc_tears.specs.{Ends.{shown_end}, Tears.{case_end, told_text}, inner.Standing.{case_at, reading_text_at}}
 use Rattle.mc_tears.proofs.cases.write_case.Given.{Over}
@@ -79,3 +80,8 @@ returns-clause-right g c =
     c.is_right.ensures
     ∙ right_is (begins c.args.rounds.now) c.args.between.now (g.F.Flash.seen c.args.flash.now) c.requires.stands c.args.asked.now c.args.reading.now (shown_end c.in_ok-end.end)
     (is_one g at) (ends g at)
+
+pub end_from-requires-clause-after : goal.end_from-requires-clause-after
+end_from-requires-clause-after g c =
+    let e = c.in_ok-is_case.ensures in
+    rw (e.stays.geometry, e.stays.content) (ends_after (begins c.args.rounds.now) c.args.between.now (g.F.Flash.seen c.args.flash.now) c.requires.stands)

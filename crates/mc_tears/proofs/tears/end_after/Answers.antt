@@ -1,9 +1,10 @@
-use Rattle.std.proofs.Common.{ap, ◌≡◌, ◌∙◌}
+use Rattle.std.proofs.Common.{ap, subst, ◌≡◌, ◌∙◌}
 use Rattle.std.specs.Prelude.{◌+◌}
-use Rattle.mc_explore.specs.inner.OneRound.{begins}
+use Rattle.mc_boot.specs.Plan.{again}
+use Rattle.mc_explore.specs.{Boots.{at_cut}, inner.OneRound.{begins}}
 use Rattle.mc_flash.specs.facts.Spends.{keeps_both}
 use Rattle.mc_tears.proofs.Standing.{back_is, back_keeps, can_pass, marks_after, stands_marked, stands_next}
-use Rattle.mc_tears.specs.{Tears.{cut_end}, inner.Standing.{Stands}}
+use Rattle.mc_tears.specs.{Tears.{cut_end}, inner.Standing.{LeavesBytes, Stands}}
 use Rattle.mc_tears.proofs.tears.end_after.Given.{Over}
 use Rattle.mc_tears.proofs.tears.end_after.Goals as goal
 use Rattle.mc_tears.proofs.tears.end_after.Goals.{In_ok-here, In_ok-pass}
@@ -49,3 +50,9 @@ returns-clause-returns g c =
     let last = g.F.Flash.seen c.end_at.new.flash in
     rw (c.back_to.ensures, c.in_ok-here.ensures.0) (back_is (g.F.Flash.seen c.args.flash.now) mid last c.in_ok-here.ensures.1
     (keeps_both mid there last pass.keeps (back_keeps there last back)) (back.limits ∙ pass.spends.limits))
+
+pub returns-clause-bytes : goal.returns-clause-bytes
+returns-clause-bytes g c =
+    let x = begins c.args.rounds.now in
+    let at = (goal.at.returns-clause-bytes g c).In_ok-pass in
+    subst (λ m. LeavesBytes (again x (at_cut x m))) (later_there g at).1 c.in_ok-end.ensures.bytes

@@ -1,6 +1,6 @@
 use Rattle.std.proofs.{Common.{ap, arith, refl, subst, sym, ◌≡◌, ◌∙◌}, lemmas.Result.{err_from_is_err_and}}
 use Rattle.std.specs.Prelude.{Some, [], flat_map, length, slice_get, ℕ, ◌++◌, ◌+◌, ◌<◌}
-use Rattle.mc_boot.specs.Outcome.{ops_of}
+use Rattle.mc_boot.specs.{Outcome.{ops_of}, Plan.{again}}
 use Rattle.mc_explore.specs.{Boots.{at_cut}, facts.Summaries.{width_is}, inner.OneRound.{begins}}
 use Rattle.mc_flash.specs.Usage.{Limits}
 use Rattle.mc_output.specs.facts.Prefixes.{IsOut, out_all, out_more, out_prefix, out_stops}
@@ -10,7 +10,7 @@ use Rattle.mc_tears.proofs.Standing.{applies_back, back_on, can_pass, goes_memor
 use Rattle.mc_tears.proofs.Written.{and_true, lines_begun, lines_next, lines_right, lines_step}
 use Rattle.mc_tears.specs.Ends.{shown_end}
 use Rattle.mc_tears.specs.Tears.{cut_end, lines_text, number_text, op_text}
-use Rattle.mc_tears.specs.inner.Standing.{Stands}
+use Rattle.mc_tears.specs.inner.Standing.{LeavesBytes, Stands}
 use Rattle.mc_tears.specs.declared.error.TearError.TheVariants as errors
 use Rattle.mc_tears.proofs.tears.write_all.Given.{Over}
 use Rattle.mc_tears.proofs.tears.write_all.Goals as goal
@@ -72,6 +72,7 @@ write_cases-requires-clause-stands g c =
       applies = applies_back h k back c.next_op-op.result c.next_op-op.ensures.applies;
       before = i.before;
       after = c.in_ok-after.ensures.end ∙ ap (λ m. cut_end x (m + 1)) i.number;
+      bytes = subst (λ m. LeavesBytes (again x (at_cut x (m + 1)))) i.number c.in_ok-after.ensures.bytes;
       room = room_here x c.loop-number.at k stands (rw (back.stays.checkpoints, back.limits) (omega (arith, i.marks)));
     }
 
