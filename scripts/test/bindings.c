@@ -1,6 +1,6 @@
 /* run-bindings A B C FILE WORDS..: runs one command line over three files by the library, as the program would, with standard input,
  * and writes the file `out` of the command line to FILE where it has bytes. */
-#include "../bindings/mcsim.h"
+#include "../../bindings/mcsim.h"
 #include <stdio.h>
 #include <stdlib.h>
 #include <string.h>
