@@ -1,25 +1,25 @@
--- Courses that go on with another one: in their transfers, in their openings, by the test, and so the outcome after a cut.
+-- Courses that go on with another one: in their transfers, in their openings, and so the outcome after a cut.
 use Rattle.std.proofs.Common.{ap, append_assoc, arith, inl, inr, length-append, subst, sym, zero-mul, ◌∙◌, zero-add, add-zero}
 use Rattle.std.proofs.{Math.Nat.{mod-add-div', mul-le-mul_right}, Math.Seq.{drop-append-add}}
 use Rattle.std.proofs.{lemmas.List.{drop-drop, length-drop, length-take, length-map, drop_all}, lemmas.List.FromFn.{length-map-range_with_len}}
-use Rattle.std.specs.{Bool.{beq}, List.{AllByRecursion, between, range_with_len}}
-use Rattle.std.specs.Prelude.{Bool, IfSome, List, Option, Some, [], drop, false, flat_map, if◌then◌else◌, length, map, nat_le, not, option_map, refl, slice_get, suc, take, true, zero, ℕ, ◌&&◌, ◌*◌, ◌++◌, ◌+◌, ◌-◌, ◌/◌, ◌<◌, ◌==◌, ◌||◌, ◌∷◌, ◌≡◌, ◌≤◌}
-use Rattle.mc_boot.proofs.{Courses.{drop_at_place}, Joins.{IsJoined, Joins, are_equal, chosen, is_most, joined, less}}
-use Rattle.mc_boot.proofs.{Meets.{AreThere, BeginsIn, IsListed, IsRestOf, Meets, Sector, WritesIn, erase_of, all_weaker}, Transfers.{fits_at, there_is}}
+use Rattle.std.specs.{List.{AllByRecursion, between, range_with_len}}
+use Rattle.std.specs.Prelude.{Bool, IfSome, List, Option, Some, [], drop, false, flat_map, if◌then◌else◌, length, map, option_map, refl, slice_get, suc, take, true, zero, ℕ, ◌*◌, ◌++◌, ◌+◌, ◌-◌, ◌/◌, ◌<◌, ◌==◌, ◌∷◌, ◌≡◌, ◌≤◌, ◌⊎◌}
+use Rattle.mc_boot.proofs.{Courses.{drop_at_place}, Joins.{IsJoined, Joins, joined, less}, Meets.{all_weaker}, Transfers.{fits_at, there_is}}
+use Rattle.mc_boot.specs.inner.Meets.{AreThere, BeginsIn, GoesOnWith, IsHarmless, IsListed, IsRestOf, Meets, Sector, WritesIn, erase_of}
 use Rattle.mc_boot.specs.facts.Lengths.{length-steps, length-transfers}
 use Rattle.mc_boot.specs.Boot.{IsBootOf, IsCold, Progress, all_saves, begun, course_list, list_from, progress, whole_list}
-use Rattle.mc_boot.specs.Joins.{IsCut, comes_to, erases_at, erases_of, is_same_grain, is_same_swap, kept_from, kept_of, harmless_opening_len, starts_as, harmless_transfer_len}
-use Rattle.mc_boot.specs.Outcome.{Report, at, left_by, ops_of, outcome_of}
+use Rattle.mc_boot.specs.Joins.{IsCut, erases_of}
+use Rattle.mc_boot.specs.Outcome.{Report, at, left_by, outcome_of}
 use Rattle.mc_boot.specs.Plan.{PowerOn, again, closing, copy_of, entry_of, from_transfer, image_ok_write, is_revert, is_test, marking, new_list, number_of, opening_writes, piece, plan, powered, preparation_writes, resumed_list, steps, swap_list, trailer_erase, trailer_erases, transfers, write}
-use Rattle.mc_boot.specs.{declared.boot.Boot.{Boot}, declared.course.Course.{Course}, declared.course.Opening.{Opening}}
+use Rattle.mc_boot.specs.{declared.boot.Boot.{Boot}, declared.course.Course.{Course}}
 use Rattle.mc_boot.specs.{declared.course.Opening.TheVariants.{New, Resumed}, declared.transfer.Transfer.{Transfer}, facts.Bounds.{plan_few, plan_saves}}
 use Rattle.mc_boot.specs.facts.Run.{come_at}
-use Rattle.mc_flash.specs.{Flash.{Content, IsSized, sectors_of, size_of}, Geometry.{Geometry, IsLayout, greatest_sectors, in_pieces, trailer_sectors}}
+use Rattle.mc_flash.specs.{Flash.{Content, IsSized, sectors_of, size_of}, Geometry.{Geometry, IsLayout, in_pieces, trailer_sectors}}
 use Rattle.mc_flash.specs.{Usage.{Seen, most_operations, most_saved}, declared.flash.Grain.{Grain}, declared.op.Op.{Op}}
 use Rattle.mc_flash.specs.{declared.op.Op.TheVariants.{Erase, Program}, declared.op.Slot.{Slot}, declared.op.Slot.TheVariants.{Primary, Secondary}}
 use Rattle.mc_flash.specs.facts.Layouts.{trailer_leaves_one}
 use Rattle.mc_trailer.specs.{Trailer.{before_end, one_unit, place, room}, declared.places.Field.{Field}, declared.tables.Rules.{Rules}}
-use Rattle.mc_trailer.specs.{declared.tables.SwapType.{SwapType}, facts.Places.{most_before_end, one_unit_fits, place_inside}, facts.Tables.{and_parts}}
+use Rattle.mc_trailer.specs.{declared.tables.SwapType.{SwapType}, facts.Places.{most_before_end, one_unit_fits, place_inside}}
 use lib.Seq.{take_at}
 use Rattle.mc_trailer.specs.declared.places.Field.TheVariants as field
 use Rattle.mc_flash.specs.declared.flash.Grain.TheVariants as grains
@@ -115,6 +115,10 @@ new_rest c g kind size n rest is = by (is_revert kind)
         beyond_prefix (trailer_erases g Secondary) (preparation_writes c g size ++ swap_list c g kind size n) rest
         (beyond_prefix (preparation_writes c g size) (swap_list c g kind size n) rest (swap_rest c g kind size n rest is))
 
+-- Which rest it is, by how many operations it has fewer.
+pub rest_is : (rest ops : List Op) (j : ℕ) → j ≡ length ops - length rest → IsRestOf rest ops → rest ≡ drop j ops
+rest_is rest ops j count is = grind (arith, length-drop)
+
 rest_of_rest : (xs ys zs : List Op) → IsRestOf xs ys → IsRestOf ys zs → IsRestOf xs zs
 rest_of_rest xs ys zs one two = grind (arith, length-drop, drop-drop)
 
@@ -126,30 +130,19 @@ finish_rest : (g : Geometry) (n first : ℕ) → first ≡ 3 * n → IsRestOf (f
 finish_rest g n first is =
     rw (finish_alone g n first false is, finish_alone g n first true is) (1, omega arith, refl)
 
--- What a course comes to is a rest of it.
-pub comes_rest : (c : Grain) (g : Geometry) (n : ℕ) (opening : Opening) (first : ℕ) (erases image_ok : Bool) → first ≤ 3 * n
-    → comes_to n opening first erases image_ok ≡ true → IsRestOf (resumed_list g n first erases image_ok) (list_from c g n opening)
-comes_rest c g n (New kind size) first erases true high is = let no_ : false ≡ true = (and_parts (not erases || first == 0) false is).1 in absurd cc
-comes_rest c g n (New kind size) first false false high is =
-    new_rest c g kind size n (from_transfer g n first false) (resumed_rest g n 0 first true false (omega arith) high)
-comes_rest c g n (New kind size) first true false high is = grind (arith, are_equal, and_parts, is, new_rest, whole_rest)
-comes_rest c g n (Resumed start erased ok) first true image_ok high is = grind arith
-comes_rest c g n (Resumed start erased ok) first false image_ok high is = ends ok image_ok parts.1
-  where
-    parts : (nat_le start first ≡ true) × ((beq ok image_ok || first == 3 * n && not image_ok) ≡ true)
-    parts = and_parts (nat_le start first) (beq ok image_ok || first == 3 * n && not image_ok) is
+-- What a course comes to is a rest of it: a swap from its start, and one that was cut.
+pub new_comes : (c : Grain) (g : Geometry) (kind : SwapType) (size n first : ℕ) (erases : Bool) → first ≤ 3 * n → (erases ≡ true → first ≡ 0)
+    → IsRestOf (resumed_list g n first erases false) (new_list c g kind size n)
+new_comes c g kind size n first false high start = new_rest c g kind size n (from_transfer g n first false) (resumed_rest g n 0 first true false (omega arith) high)
+new_comes c g kind size n first true high start = rw (start refl) (new_rest c g kind size n (resumed_list g n 0 true false) (whole_rest (resumed_list g n 0 true false)))
 
-    low : start ≤ first
-    low = is_most start first parts.0
-
-    ends : (ok image_ok : Bool) → (beq ok image_ok || first == 3 * n && not image_ok) ≡ true → IsRestOf (from_transfer g n first image_ok) (resumed_list g n start erased ok)
-    ends true true same = resumed_rest g n start first erased true low high
-    ends false false same = resumed_rest g n start first erased false low high
-    ends false true same = let no_ : false ≡ true = (and_parts (first == 3 * n) false same).1 in absurd cc
-    ends true false same =
-        let last = are_equal first (3 * n) (and_parts (first == 3 * n) true same).0 in
-        rest_of_rest (from_transfer g n first false) (from_transfer g n first true) (resumed_list g n start erased true)
-        (finish_rest g n first last) (resumed_rest g n start first erased true low high)
+pub resumed_comes : (g : Geometry) (n start first : ℕ) (erased ok image_ok : Bool) → start ≤ first → first ≤ 3 * n → (ok ≡ image_ok) ⊎ ((first ≡ 3 * n) × (image_ok ≡ false))
+    → IsRestOf (from_transfer g n first image_ok) (resumed_list g n start erased ok)
+resumed_comes g n start first erased ok image_ok low high (inl same) = rw same (resumed_rest g n start first erased image_ok low high)
+resumed_comes g n start first erased false image_ok low high (inr last) = rw last.1 (resumed_rest g n start first erased false low high)
+resumed_comes g n start first erased true image_ok low high (inr last) =
+    rw last.1 (rest_of_rest (from_transfer g n first false) (from_transfer g n first true) (resumed_list g n start erased true)
+    (finish_rest g n first last.0) (resumed_rest g n start first erased true low high))
 
 -- ---- the beginning of a transfer
 
@@ -187,24 +180,10 @@ transfer_begins g n first image_ok t there here =
 pub sectors_pieces : (c : Grain) (g : Geometry) (slot : Slot) → sectors_of (in_pieces c g) slot ≡ sectors_of g slot
 sectors_pieces it g slot = grind arith
 
-pub begins_pieces : (c : Grain) (g : Geometry) (ops : List Op) (es : List Sector) (harmless_len : ℕ) → BeginsIn (in_pieces c g) ops es harmless_len → BeginsIn g ops es harmless_len
-begins_pieces c g ops es harmless_len b = grind (arith, all_weaker)
-
--- ---- the test
-
--- Where the next list goes on with the one that was cut the boots join.
-pub met_joins : (x : PowerOn) (u : Content) (c j erases : ℕ) (ops rest : List Op) (m : Meets x.geometry ops rest c j erases) → IsSized x.geometry x.content → at x c ≡ Some u → c < length (ops_of x)
-    → (plan x).list ≡ ops → (plan (again x u)).list ≡ rest → Joins x u c j m.sectors
-met_joins x u c j erases ops rest m sized cut early list_s list_u = record {
-  sized = sized;
-  cut = cut;
-  early = early;
-  passed = m.passed;
-  rest = list_u ∙ (grind (arith, length-drop)) ∙ ap (λ n. drop n ops) (sym m.count) ∙ ap (drop j) (sym list_s);
-  there = m.begins.there;
-  erases = ap (take (length m.sectors)) list_u ∙ m.begins.erases;
-  inside = let high = m.reached in rw list_u (all_less (WritesIn x.geometry m.sectors) rest (c - j) m.harmless_len (omega (arith, high)) m.begins.inside);
-}
+begins_pieces : (c : Grain) (g : Geometry) (ops : List Op) (es : List Sector) (k harmless_len : ℕ) → k ≤ harmless_len → BeginsIn (in_pieces c g) ops es harmless_len → BeginsIn g ops es k
+begins_pieces c g ops es k harmless_len few b =
+    let inside = all_less (WritesIn (in_pieces c g) es) ops k harmless_len few b.inside in
+    grind (arith, all_weaker)
 
 -- ---- erases before others
 
@@ -267,43 +246,36 @@ trailer_begins g slot fs rest harmless_len ok begins =
 
 -- A course from a transfer on begins with the erase of its target and copies into it, after the erases of the secondary's
 -- trailer where no entry was written. After the last transfer it begins with no erase.
-begins_so : (l : Geometry) (n first : ℕ) (erases image_ok last : Bool) → IsLayout l → n ≤ greatest_sectors l → first ≤ 3 * n → (first == 3 * n) ≡ last
-    → (es : List Sector) × (length es ≡ (if last then 0 else (if erases then trailer_sectors l else 0) + 1))
-    × BeginsIn l (resumed_list l n first erases image_ok) es (if last then 0 else (if erases then trailer_sectors l else 0) + (l.sector / l.chunk + 1))
-begins_so l n first erases image_ok true ok at_most high is = ([], refl, record { there = tt; erases = refl; inside = tt })
-begins_so l n first false image_ok false ok at_most high is =
-    let there = there_is l n first (grind (arith, nat_tests)) in
-    let fits = fits_at l n first there.0 ok at_most there.1 in
-    (target there.0 ∷ [], omega arith, rw (zero-add (l.sector / l.chunk + 1)) (transfer_begins l n first image_ok there.0 fits.inside.to there.1))
-begins_so l n first true image_ok false ok at_most high is =
-    let there = there_is l n first (grind (arith, nat_tests)) in
-    let fits = fits_at l n first there.0 ok at_most there.1 in (
+pub transfer_harmless : (b : Course) (first len : ℕ) (erases image_ok last : Bool) → IsLayout b.layout → b.opening ≡ Resumed first erases image_ok → first ≤ 3 * b.sectors
+    → (first == 3 * b.sectors) ≡ last → len ≡ (if last then 0 else (if erases then trailer_sectors b.layout else 0) + (b.layout.sector / b.layout.chunk + 1)) → IsHarmless b len
+transfer_harmless b first len erases image_ok true ok opening high is count = rw (opening, is, count) ([], refl, record { there = tt; erases = refl; inside = tt })
+transfer_harmless b first len false image_ok false ok opening high is count =
+    let l = b.layout in
+    let there = there_is l b.sectors first (grind (arith, nat_tests)) in
+    let fits = fits_at l b.sectors first there.0 ok b.fits there.1 in
+    rw (opening, is, count) (target there.0 ∷ [], omega arith, rw (zero-add (l.sector / l.chunk + 1)) (transfer_begins l b.sectors first image_ok there.0 fits.inside.to there.1))
+transfer_harmless b first len true image_ok false ok opening high is count =
+    let l = b.layout in
+    let there = there_is l b.sectors first (grind (arith, nat_tests)) in
+    let fits = fits_at l b.sectors first there.0 ok b.fits there.1 in
+    rw (opening, is, count) (
       trailer_of_slot l Secondary ++ target there.0 ∷ [],
       omega (arith, length-append (trailer_of_slot l Secondary) (target there.0 ∷ []), length-trailer l Secondary),
-      trailer_begins l Secondary (target there.0 ∷ []) (from_transfer l n first image_ok) (l.sector / l.chunk + 1) ok (transfer_begins l n first image_ok there.0 fits.inside.to there.1),
+      trailer_begins l Secondary (target there.0 ∷ []) (from_transfer l b.sectors first image_ok) (l.sector / l.chunk + 1) ok
+          (transfer_begins l b.sectors first image_ok there.0 fits.inside.to there.1),
     )
 
--- A course goes on with another of the same grain and sectors.
-pub course_meets : (g : Geometry) (a b : Course) (first : ℕ) (erases image_ok : Bool) (done less : ℕ) → a.layout ≡ in_pieces a.grain g → b.layout ≡ in_pieces b.grain g → IsLayout b.layout
-    → a.grain ≡ b.grain → a.sectors ≡ b.sectors → b.opening ≡ Resumed first erases image_ok → first ≤ 3 * b.sectors → comes_to b.sectors a.opening first erases image_ok ≡ true
-    → less ≡ length (course_list a) - length (course_list b) → less ≤ done → done ≤ less + harmless_transfer_len b.layout b.sectors first erases
-    → Meets g (course_list a) (course_list b) done less (erases_at b.layout b.sectors (Resumed first erases image_ok))
-course_meets g a b first erases image_ok done less layout_a layout_b ok grain sectors opening high comes count low far =
-    let harmless_len : ℕ = harmless_transfer_len b.layout b.sectors first erases in
-    let same : course_list b ≡ resumed_list b.layout b.sectors first erases image_ok = ap (list_from b.grain b.layout b.sectors) opening in
-    let layouts : a.layout ≡ b.layout = layout_a ∙ ap (λ (c : Grain). in_pieces c g) grain ∙ sym layout_b in
-    let lists : course_list a ≡ list_from a.grain b.layout b.sectors a.opening = rw (layouts, sectors) refl in
-    let rest = comes_rest a.grain b.layout b.sectors a.opening first erases image_ok high comes in
-    let begins = begins_so b.layout b.sectors first erases image_ok (first == 3 * b.sectors) ok b.fits high refl in
+-- A course goes on with another of the same grain and sectors that it is a rest of.
+pub course_meets : (a b : Course) (done j harmless_len : ℕ) → (a.grain ≡ b.grain) × (a.sectors ≡ b.sectors)
+    → (course_list a ≡ list_from b.grain b.layout b.sectors a.opening → course_list b ≡ drop j (course_list a)) → IsHarmless b harmless_len → j ≤ done → done ≤ j + harmless_len → GoesOnWith a done b j
+course_meets a b done j harmless_len same rest harmless low far g layout_a layout_b =
+    let layouts : a.layout ≡ b.layout = layout_a ∙ ap (λ (c : Grain). in_pieces c g) same.0 ∙ sym layout_b in
     record {
-      count = count;
-      is_rest = rw (same, lists) rest;
-      sectors = begins.0;
-      so_many = begins.1;
-      harmless_len = harmless_len;
-      begins = begins_pieces b.grain g (course_list b) begins.0 harmless_len (rw (← layout_b, same) begins.2);
+      is_rest = rest (rw (same.0, layouts, same.1) refl);
       passed = low;
-      reached = far;
+      sectors = harmless.0;
+      so_many = harmless.1;
+      begins = begins_pieces b.grain g (course_list b) harmless.0 (done - j) harmless_len (omega (arith, far)) (rw (← layout_b) harmless.2);
     }
 
 -- The opening of a swap begins with the erases of a trailer, and then writes in it: what is cut there begins anew.
@@ -351,80 +323,24 @@ writes_opening c g kind size ok = (writes_field g Primary field.SwapInfo (one_un
 
 -- ---- the opening
 
--- Erases of a trailer, then writes in it.
-trailer_opens : (g : Geometry) (slot : Slot) (writes rest : List Op) → IsLayout g → AllByRecursion (WritesIn g (trailer_of_slot g slot)) writes
-    → BeginsIn g (trailer_erases g slot ++ (writes ++ rest)) (trailer_of_slot g slot) (trailer_sectors g + length writes)
-trailer_opens g slot writes rest ok all =
+-- A swap from its start begins with the erases of a trailer, then it writes in it.
+pub opening_harmless : (b : Course) (kind : SwapType) (size len : ℕ) (slot : Slot) (writes rest : List Op) → IsLayout b.layout → b.opening ≡ New kind size
+    → new_list b.grain b.layout kind size b.sectors ≡ trailer_erases b.layout slot ++ (writes ++ rest) → AllByRecursion (WritesIn b.layout (trailer_of_slot b.layout slot)) writes
+    → len ≡ length (trailer_erases b.layout slot ++ writes) → IsHarmless b len
+opening_harmless b kind size len slot writes rest ok opening list all is =
+    let g = b.layout in
     let es : List Sector = trailer_of_slot g slot in
-    rw (← trailer_erased g slot) (record {
-      there = trailer_there g slot ok;
-      erases = take_at (map erase_of es) (writes ++ rest) (length es) (length-map es erase_of);
-      inside = rw (length-trailer g slot) at
-          (writes_erases g es es (writes ++ rest) (length writes) (λ o index is. is) (all_prefix (WritesIn g es) writes rest (length writes) (omega arith) all));
-    })
-
-new_begins : (c : Grain) (g : Geometry) (kind : SwapType) (size n : ℕ) → IsLayout g
-    → (es : List Sector) × (length es ≡ trailer_sectors g) × BeginsIn g (new_list c g kind size n) es (harmless_opening_len c g kind size)
-new_begins c g kind size n ok = by (is_revert kind)
-  where
-    by : (b : Bool) → (es : List Sector) × (length es ≡ trailer_sectors g) × BeginsIn g
-        (if b then trailer_erases g Secondary ++ (preparation_writes c g size ++ swap_list c g kind size n) else swap_list c g kind size n) es
-        (trailer_sectors g + (if b then length (preparation_writes c g size) else length (opening_writes c g kind size)))
-    by true = (trailer_of_slot g Secondary, length-trailer g Secondary, trailer_opens g Secondary (preparation_writes c g size) (swap_list c g kind size n) ok (writes_preparation c g size ok))
-    by false = (trailer_of_slot g Primary, length-trailer g Primary, trailer_opens g Primary (opening_writes c g kind size) (resumed_list g n 0 true false) ok (writes_opening c g kind size ok))
-
--- A swap that begins anew goes on with the same swap, where that was cut in the opening.
-pub anew_meets : (g : Geometry) (a b : Course) (kind : SwapType) (size done : ℕ) → a.layout ≡ in_pieces a.grain g → b.layout ≡ in_pieces b.grain g → a.grain ≡ b.grain → a.sectors ≡ b.sectors
-    → a.opening ≡ New kind size → b.opening ≡ New kind size → IsLayout b.layout → done ≤ harmless_opening_len b.grain b.layout kind size
-    → Meets g (course_list a) (course_list b) done 0 (trailer_sectors b.layout)
-anew_meets g a b kind size done layout_a layout_b grain sectors opening_a opening_b ok far =
-    let layouts : a.layout ≡ b.layout = layout_a ∙ ap (λ (c : Grain). in_pieces c g) grain ∙ sym layout_b in
-    let list_b : course_list b ≡ new_list b.grain b.layout kind size b.sectors = ap (list_from b.grain b.layout b.sectors) opening_b in
-    let same : course_list b ≡ course_list a = rw (opening_a, opening_b, layouts, grain, sectors) refl in
-    let begins = new_begins b.grain b.layout kind size b.sectors ok in
-    record {
-      count = omega (arith, ap (λ (ops : List Op). length ops) same);
-      is_rest = rw (← same) (whole_rest (course_list b));
-      sectors = begins.0;
-      so_many = begins.1;
-      harmless_len = harmless_opening_len b.grain b.layout kind size;
-      begins = begins_pieces b.grain g (course_list b) begins.0 (harmless_opening_len b.grain b.layout kind size) (rw (← layout_b, list_b) begins.2);
-      passed = omega arith;
-      reached = omega (arith, far);
-    }
-
--- Where the test of two courses gives a number, the second goes on where the first was cut.
-
-same_start : (o : Opening) (kind : SwapType) (size : ℕ) → starts_as o kind size ≡ true → o ≡ New kind size
-same_start it kind size is = grind arith
-
-from_opening : (g : Geometry) (a b : Course) (done j : ℕ) (opening : Opening) → b.opening ≡ opening → IsLayout b.layout → a.layout ≡ in_pieces a.grain g → b.layout ≡ in_pieces b.grain g
-    → kept_from a done b opening ≡ Some j → Meets g (course_list a) (course_list b) done j (erases_at b.layout b.sectors opening)
-from_opening g a b done j (New kind size) at_b ok layout_a layout_b is =
-    let far : Bool = nat_le done (harmless_opening_len b.grain b.layout kind size) in
-    let found = chosen (is_same_swap a b && starts_as a.opening kind size && far) 0 j is in
-    let parts = and_parts (is_same_swap a b && starts_as a.opening kind size) far found.0 in
-    let starts = and_parts (is_same_swap a b) (starts_as a.opening kind size) parts.0 in
-    let swaps = and_parts (is_same_grain a.grain b.grain) (a.sectors == b.sectors) starts.0 in
-    rw (← found.1) (anew_meets g a b kind size done layout_a layout_b (grind arith) (are_equal a.sectors b.sectors swaps.1)
-    (same_start a.opening kind size starts.1) at_b ok (is_most done (harmless_opening_len b.grain b.layout kind size) parts.1))
-from_opening g a b done j (Resumed first erases image_ok) at_b ok layout_a layout_b is =
-    let less = length (course_list a) - length (course_list b) in
-    let harmless_len : ℕ = harmless_transfer_len b.layout b.sectors first erases in
-    let comes : Bool = comes_to b.sectors a.opening first erases image_ok in
-    let inside : Bool = nat_le first (3 * b.sectors) in
-    let found = chosen (is_same_swap a b && inside && comes && nat_le less done && nat_le done (less + harmless_len)) less j is in
-    let far = and_parts (is_same_swap a b && inside && comes && nat_le less done) (nat_le done (less + harmless_len)) found.0 in
-    let low = and_parts (is_same_swap a b && inside && comes) (nat_le less done) far.0 in
-    let goes = and_parts (is_same_swap a b && inside) comes low.0 in
-    let high = and_parts (is_same_swap a b) inside goes.0 in
-    let swaps = and_parts (is_same_grain a.grain b.grain) (a.sectors == b.sectors) high.0 in
-    rw (← found.1) (course_meets g a b first erases image_ok done less layout_a layout_b ok (grind arith) (are_equal a.sectors b.sectors swaps.1)
-    at_b (is_most first (3 * b.sectors) high.1) goes.1 refl (is_most less done low.1) (is_most done (less + harmless_len) far.1))
-
-pub joins_meet : (g : Geometry) (a b : Course) (done j : ℕ) → IsLayout b.layout → a.layout ≡ in_pieces a.grain g → b.layout ≡ in_pieces b.grain g → kept_of a done b ≡ Some j
-    → Meets g (course_list a) (course_list b) done j (erases_of b)
-joins_meet g a b done j ok layout_a layout_b is = from_opening g a b done j b.opening refl ok layout_a layout_b is
+    let count = length-map es erase_of in
+    rw (opening, list, is, ← trailer_erased g slot) (
+      es,
+      length-trailer g slot,
+      record {
+        there = trailer_there g slot ok;
+        erases = take_at (map erase_of es) (writes ++ rest) (length es) count;
+        inside = rw (length-append (map erase_of es) writes, count)
+            (writes_erases g es es (writes ++ rest) (length writes) (λ o index is. is) (all_prefix (WritesIn g es) writes rest (length writes) (omega arith) all));
+      },
+    )
 
 -- The outcome of a boot after a cut, by the courses of the two boots.
 
@@ -448,17 +364,29 @@ layout_is g o a is all = rw is at all
 pub at_start : (from : PowerOn) (u : Content) (cut : Boot) (whole : Report) → IsCut from u cut whole → cut.done ≡ 0 → again from u ≡ from
 at_start from u cut whole is none = grind arith
 
--- After a cut the next boot goes on as the one that was cut would have, where the test of their courses gives a number.
+-- After a cut the next boot goes on as the one that was cut would have, where its course goes on with that one's.
 module _ (from : PowerOn) (u : Content) (cut next : Boot) (a b : Course) (whole : Report) (j : ℕ) where
   module _ (is : IsCut from u cut whole) (at_a : cut.course ≡ Some a) (at_b : next.course ≡ Some b) where
-    module _ (of : IsBootOf from.geometry next) (start : progress next ≡ begun from.rules (plan (again from u))) (ok : IsLayout b.layout) (joins : kept_of a cut.done b ≡ Some j) where
-      follows : IsJoined from u j
-      follows =
-          let meets = joins_meet from.geometry a b cut.done j ok (layout_is from.geometry cut.course a at_a is.layout) (layout_is from.geometry next.course b at_b of) joins in
-          let list_s : (plan from).list ≡ course_list a = sym is.list ∙ ap whole_list at_a in
+    module _ (of : IsBootOf from.geometry next) (start : progress next ≡ begun from.rules (plan (again from u))) (goes : GoesOnWith a cut.done b j) where
+      pub courses_meet : Meets from.geometry (course_list a) (course_list b) cut.done j (erases_of b)
+      courses_meet = goes from.geometry (layout_is from.geometry cut.course a at_a is.layout) (layout_is from.geometry next.course b at_b of)
+
+      pub boots_join : Joins from u cut.done j courses_meet.sectors
+      boots_join =
           let list_u : (plan (again from u)).list ≡ course_list b = sym (grind arith) ∙ ap whole_list at_b in
-          joined from u cut.done j meets.sectors (met_joins from u cut.done j (erases_of b) (course_list a) (course_list b) meets is.sized (come_at from (progress cut) u is.come) is.early list_s
-          list_u)
+          record {
+            sized = is.sized;
+            cut = come_at from (progress cut) u is.come;
+            early = is.early;
+            passed = courses_meet.passed;
+            rest = list_u ∙ courses_meet.is_rest ∙ ap (drop j) (sym (ap whole_list at_a) ∙ is.list);
+            there = courses_meet.begins.there;
+            erases = ap (take (length courses_meet.sectors)) list_u ∙ courses_meet.begins.erases;
+            inside = rw list_u courses_meet.begins.inside;
+          }
+
+      follows : IsJoined from u j
+      follows = joined from u cut.done j courses_meet.sectors boots_join
 
       pub outcome_follows : outcome_of (again from u) ≡ Some (less next.kind j whole)
       outcome_follows =

@@ -4,7 +4,8 @@ use Rattle.std.specs.List.{between, AllByRecursion}
 use Rattle.std.proofs.{Common.{arith, sym, ap, subst, ◌∙◌, inl, inr}, lemmas.Bool.{cases_lt}, lemmas.Grind.{elements}, lemmas.List.{length-replicate}}
 use Rattle.mc_flash.specs.{Geometry.{Geometry}, Flash.{is_blank, Content, byte, bytes_of}, facts.Changes.{Changed, range_blank}, declared.op.Slot.{Slot}}
 use Rattle.mc_flash.specs.declared.op.Slot.TheVariants.{Primary, Secondary}
-use Rattle.mc_boot.proofs.Meets.{blank, erase_in, erases, Fit, fit_longer, same_bytes, same_content, which_slot, Sector, all_weaker}
+use Rattle.mc_boot.proofs.Meets.{blank, erase_in, erases, Fit, fit_longer, same_bytes, same_content, which_slot, all_weaker}
+use Rattle.mc_boot.specs.inner.Meets.{Sector}
 
 module _ (g : Geometry) where
   -- Each byte of the sector is 0xff.

@@ -1,29 +1,18 @@
 -- Two boots that end alike.
 use Rattle.std.proofs.{Common.{ap, arith, length-append, sym, ◌∙◌}, Math.Seq.{take-add, take-length}, lemmas.Bool.Decides.{nat_tests}}
 use Rattle.std.proofs.lemmas.List.{length-drop, length-take, length-take-le}
-use Rattle.std.specs.{Bool.{beq}, List.{AllByRecursion}}
-use Rattle.std.specs.Prelude.{Bool, List, None, Option, Some, [], drop, false, if◌then◌else◌, length, map, nat_le, nat_lt, option_and_then, option_map, refl, suc, take, true, ℕ, ◌++◌, ◌+◌, ◌-◌, ◌<◌, ◌==◌, ◌∷◌, ◌≡◌, ◌≤◌}
-use Rattle.mc_boot.proofs.Meets.{AreThere, Fit, Sector, WritesIn, blank, erase_in, erase_of, fit_longer, fit_there, op_blanked, op_longer}
+use Rattle.std.specs.List.{AllByRecursion}
+use Rattle.std.specs.Prelude.{Bool, List, None, Option, Some, [], drop, false, length, map, nat_lt, option_and_then, option_map, refl, suc, take, true, ℕ, ◌++◌, ◌+◌, ◌-◌, ◌<◌, ◌==◌, ◌∷◌, ◌≡◌, ◌≤◌}
+use Rattle.mc_boot.proofs.Meets.{Fit, blank, erase_in, fit_longer, fit_there, op_blanked, op_longer}
 use Rattle.mc_boot.specs.Outcome.{Report, applied, at, first_then, happening, is_faulted, is_panic, left_by, ops_of, outcome_of, report}
-use Rattle.mc_boot.specs.{Plan.{Plan, PowerOn, again, new_plan, plan, plan_with}, declared.image.Images.{Images}, facts.Run.{happening_prefix, left_defined}}
+use Rattle.mc_boot.specs.{Plan.{Plan, PowerOn, again, new_plan, plan, plan_with}, declared.image.Images.{Images}, facts.Run.{happening_prefix, left_defined}, inner.Meets.{AreThere, Sector, WritesIn, erase_of}}
 use Rattle.mc_flash.specs.{Flash.{Content, IsSized, apply, bytes_of}, Geometry.{Geometry}, declared.flash.Grain.{Grain}, declared.op.Op.{Op}}
 use Rattle.mc_flash.specs.declared.op.Slot.{Slot}
 use Rattle.mc_trailer.specs.{declared.tables.Rules.{Rules}, declared.tables.SwapType.{SwapType}}
 
--- What tests show where they hold.
-
-pub are_same : (a b : Bool) → beq a b ≡ true → a ≡ b
-are_same a b is = grind arith
-
+-- What a test shows where it holds.
 pub are_equal : (m n : ℕ) → (m == n) ≡ true → m ≡ n
 are_equal m n is = grind (arith, nat_tests)
-
-pub is_most : (m n : ℕ) → nat_le m n ≡ true → m ≤ n
-is_most m n is = grind (arith, nat_tests)
-
--- Which number a test gives, where it gives one.
-pub chosen : (t : Bool) (m n : ℕ) → (if t then Some m else None) ≡ Some n → (t ≡ true) × (m ≡ n)
-chosen it m n is = grind arith
 
 -- The outcome of a boot after a cut, where it follows from that of the boot that was cut.
 

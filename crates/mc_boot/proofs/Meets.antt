@@ -2,77 +2,13 @@
 use Rattle.std.proofs.{Common.{arith, inl, inr, length-append, subst, sym, ◌∙◌}, lemmas.Bool.{cases_lt}}
 use Rattle.std.proofs.lemmas.List.{get_or_default, length-drop, length-replicate, length-take, same_lists}
 use Rattle.std.specs.List.{AllByRecursion}
-use Rattle.std.specs.Prelude.{List, Some, [], drop, length, map, replicate, take, ℕ, ◌*◌, ◌+◌, ◌-◌, ◌<◌, ◌∷◌, ◌≡◌, ◌≢◌, ◌≤◌, ◌⊎◌}
-use Rattle.mc_flash.specs.Flash.{Content, IsSized, apply, byte, bytes_of, erased, in_slot, programmed, put, sectors_of, with_bytes}
+use Rattle.std.specs.Prelude.{List, Some, [], drop, length, replicate, ℕ, ◌*◌, ◌+◌, ◌-◌, ◌<◌, ◌∷◌, ◌≡◌, ◌≢◌, ◌≤◌, ◌⊎◌}
+use Rattle.mc_boot.specs.inner.Meets.{AreThere, IsListed, Sector, WritesIn}
+use Rattle.mc_flash.specs.Flash.{Content, IsSized, apply, byte, bytes_of, erased, in_slot, programmed, put, with_bytes}
 use Rattle.mc_flash.specs.{Geometry.{Geometry}, declared.op.Op.{Op}, declared.op.Op.TheVariants.{Copy, Erase, Program}, declared.op.Slot.{Slot}}
 use Rattle.mc_flash.specs.declared.op.Slot.TheVariants.{Primary, Secondary}
 use Rattle.mc_flash.specs.facts.Changes.{Changed, changed, copied, program_changes, program_was_blank, same_content as one_content, sized_is}
 use Rattle.mc_flash.specs.facts.Layouts.{sector_inside}
-
--- What it is for a list of operations to go on where another was cut.
-
--- A sector of a slot.
-pub record Sector : Type 0 where
-  pub slot : Slot
-  pub index : ℕ
-
--- The operation that erases a sector.
-abbrev pub erase_of : Sector → Op
-erase_of e = Erase e.slot e.index
-
--- Where an operation writes: the slot, the first byte and how many.
-abbrev pub target_of : Op → Slot
-target_of (Erase slot sector) = slot
-target_of (Program slot at bytes) = slot
-target_of (Copy from at to offset len) = to
-
-abbrev pub written_from : Geometry → Op → ℕ
-written_from g (Erase slot sector) = sector * g.sector
-written_from g (Program slot at bytes) = at
-written_from g (Copy from at to offset len) = offset
-
-abbrev pub written_len : Geometry → Op → ℕ
-written_len g (Erase slot sector) = g.sector
-written_len g (Program slot at bytes) = length bytes
-written_len g (Copy from at to offset len) = len
-
--- One of these sectors.
-abbrev pub IsListed : List Sector → Slot → ℕ → Type 0
-IsListed [] slot index = ⊥
-IsListed (e ∷ es) slot index = ((slot ≡ e.slot) × (index ≡ e.index)) ⊎ IsListed es slot index
-
--- An operation changes bytes of one of these sectors alone.
-pub record WritesIn (g : Geometry) (es : List Sector) (op : Op) : Type 0 where
-  pub index : ℕ
-  pub listed : IsListed es (target_of op) index
-  pub from : index * g.sector ≤ written_from g op
-  pub to : written_from g op + written_len g op ≤ index * g.sector + g.sector
-
--- The sectors are there.
-abbrev pub AreThere : Geometry → List Sector → Type 0
-AreThere g es = AllByRecursion (λ e. e.index < sectors_of g e.slot) es
-
--- A list begins with the erases of these sectors, and its first operations write in them alone.
-pub record BeginsIn (g : Geometry) (ops : List Op) (es : List Sector) (harmless_len : ℕ) : Type 0 where
-  pub there : AreThere g es
-  pub erases : take (length es) ops ≡ map erase_of es
-  pub inside : AllByRecursion (WritesIn g es) (take harmless_len ops)
-
--- One list is a rest of another.
-abbrev pub IsRestOf : List Op → List Op → Type 0
-IsRestOf rest ops = (k : ℕ) × (k ≤ length ops) × (rest ≡ drop k ops)
-
--- A boot of the second list goes on where one of the first was cut after so many operations: the second is the first
--- without its first j, it begins with erases of so many sectors, and what the first boot made of it wrote in these alone.
-pub record Meets (g : Geometry) (ops rest : List Op) (done j erases : ℕ) : Type 0 where
-  pub count : j ≡ length ops - length rest
-  pub is_rest : IsRestOf rest ops
-  pub sectors : List Sector
-  pub so_many : length sectors ≡ erases
-  pub harmless_len : ℕ
-  pub begins : BeginsIn g rest sectors harmless_len
-  pub passed : j ≤ done
-  pub reached : done ≤ j + harmless_len
 
 -- A content with some sectors erased, and the operations that it can't be distinguished from.
 

@@ -1,13 +1,13 @@
--- What the test of two courses, and of the sectors that are erased, says of the flashes after a cut.
+-- What two courses, and the sectors that are erased, say of the flashes after a cut.
 use Rattle.std.specs.Prelude.{◌≡◌, ℕ, zero, suc, ◌+◌, ◌<◌, ◌≤◌, max, true, List, [], ◌∷◌, length, map, take, drop, slice_get, Some, IfSome}
 use Rattle.std.proofs.{Common.{arith, sym, ap, subst, ◌∙◌, inl, inr}, lemmas.Bool.{cases_lt}, lemmas.Bool.Decides.{nat_tests}}
-use Rattle.mc_flash.specs.{Flash.{Content}, Geometry.{Geometry, IsLayout}}
+use Rattle.mc_flash.specs.{Flash.{Content}, Geometry.{Geometry}}
 use Rattle.mc_flash.specs.{declared.op.Op.{Op}}
-use Rattle.mc_boot.specs.{Joins.{IsCut, erases_of, kept_of}, Boot.{IsBootOf, begun, progress, course_list, whole_list}, Outcome.{Report, at, ops_of}}
-use Rattle.mc_boot.specs.{Plan.{plan, PowerOn, again}, inner.Idle.{AllIdleBut, changes_nothing}, SharedTail.{IsSharedTail, index_in_parent}}
-use Rattle.mc_boot.specs.{facts.Run.{come_at}, declared.boot.Boot.{Boot}, declared.course.Course.{Course}, declared.shared_tail.SharedTail.{SharedTail}}
-use Rattle.mc_boot.proofs.{CourseJoins.{layout_is, met_joins, joins_meet}, Meets.{Fit, Meets, Sector, erase_of}}
-use Rattle.mc_boot.proofs.{Erased.{AreErased, erased_here}, Joins.{Joins, joined}, SharedTails.{among, beyond_erased, fits, late, next_erases, stays}}
+use Rattle.mc_boot.specs.{Joins.{IsCut, erases_of}, Boot.{IsBootOf, begun, progress, course_list}, Outcome.{Report, at, ops_of}}
+use Rattle.mc_boot.specs.{Plan.{plan, PowerOn, again}, inner.Idle.{AllIdleBut, changes_nothing}, inner.Meets.{GoesOnWith, Meets, Sector, erase_of}, SharedTail.{IsSharedTail, index_in_parent}}
+use Rattle.mc_boot.specs.{declared.boot.Boot.{Boot}, declared.course.Course.{Course}, declared.shared_tail.SharedTail.{SharedTail}}
+use Rattle.mc_boot.proofs.{CourseJoins.{boots_join, courses_meet}, Meets.{Fit}}
+use Rattle.mc_boot.proofs.{Erased.{AreErased, erased_here}, Joins.{IsJoined, Joins, joined}, SharedTails.{among, beyond_erased, fits, late, next_erases, stays}}
 
 module _ (g : Geometry) (u : Content) where
   idle_before : (es : List Sector) (ops : List Op) (n : ℕ) → take (length es) ops ≡ map erase_of es → Fit g es u
@@ -52,24 +52,19 @@ module _ (x : SharedTail) (i : ℕ) where
 
 module _ (from : PowerOn) (u : Content) (cut next : Boot) (a b : Course) (whole : Report) (x : SharedTail) where
   module _ (is : IsCut from u cut whole) (at_a : cut.course ≡ Some a) (at_b : next.course ≡ Some b) (of : IsBootOf from.geometry next) where
-    module _ (start : progress next ≡ begun from.rules (plan (again from u))) (ok : IsLayout b.layout) (found : kept_of a cut.done b ≡ Some x.kept)
+    module _ (start : progress next ≡ begun from.rules (plan (again from u))) (goes : GoesOnWith a cut.done b x.kept)
         (done : x.done ≡ cut.done) (erases : x.erases ≡ erases_of b) where
-      list_u : (plan (again from u)).list ≡ course_list b
-      list_u = sym (grind arith) ∙ ap whole_list at_b
-
-      met : Meets from.geometry (course_list a) (course_list b) cut.done x.kept (erases_of b)
-      met = joins_meet from.geometry a b cut.done x.kept ok (layout_is from.geometry cut.course a at_a is.layout) (layout_is from.geometry next.course b at_b of) found
+      abbrev met : Meets from.geometry (course_list a) (course_list b) cut.done x.kept (erases_of b)
+      met = courses_meet from u cut next a b whole x.kept is at_a at_b of start goes
 
       joins : Joins from u cut.done x.kept met.sectors
-      joins =
-          met_joins from u cut.done x.kept (erases_of b) (course_list a) (course_list b) met is.sized (come_at from (progress cut) u is.come) is.early
-          (sym is.list ∙ ap whole_list at_a) list_u
+      joins = boots_join from u cut next a b whole x.kept is at_a at_b of start goes
 
       count : length met.sectors ≡ x.erases
       count = met.so_many ∙ sym erases
 
-      width : length (ops_of (again from u)) + x.kept ≡ length (ops_of from)
-      width = (joined from u cut.done x.kept met.sectors joins).count
+      goes_on : IsJoined from u x.kept
+      goes_on = joined from u cut.done x.kept met.sectors joins
 
       at_most : x.erases ≤ length (ops_of (again from u))
       at_most = let n = next_erases from u cut.done x.kept met.sectors joins in omega (arith, n, count)
@@ -84,7 +79,7 @@ module _ (from : PowerOn) (u : Content) (cut next : Boot) (a b : Course) (whole 
       -- The power was lost before the end of the erases.
       pub tail_shared_among : x.done ≤ x.kept + x.erases → IsSharedTail from u x
       tail_shared_among low = record {
-        width = width;
+        width = goes_on.count;
         at_most = at_most;
         same = λ i lt. elim (cases_lt i x.erases) [
           | inl under ↦
@@ -94,15 +89,16 @@ module _ (from : PowerOn) (u : Content) (cut next : Boot) (a b : Course) (whole 
           | inr le ↦ beyond i le
         ];
         within = λ i lt. elim (cases_lt i x.erases) [
-          | inl under ↦ omega (arith, placed_among x i under low, under, width, at_most, early, done)
-          | inr le ↦ omega (arith, placed_beyond x i le, lt, width)
+          | inl under ↦ omega (arith, placed_among x i under low, under, goes_on.count, at_most, early, done)
+          | inr le ↦ omega (arith, placed_beyond x i le, lt, goes_on.count)
         ];
+        left = goes_on.left;
       }
 
       -- The power was lost after them, and all but one of them are made already.
       pub tail_shared_beyond : x.kept + x.erases < x.done → AllIdleBut from.geometry u (course_list b) x.only x.erases → IsSharedTail from u x
       tail_shared_beyond high idle = record {
-        width = width;
+        width = goes_on.count;
         at_most = at_most;
         same = λ i lt. elim (cases_lt i x.erases) [
           | inl under ↦ elim (cases_lt x.only i) [
@@ -122,8 +118,9 @@ module _ (from : PowerOn) (u : Content) (cut next : Boot) (a b : Course) (whole 
             | inl over ↦ omega (arith, placed_over x i under high over, high, done, early)
             | inr still ↦ omega (arith, placed_still x i under high still, done, early)
           ]
-          | inr le ↦ omega (arith, placed_beyond x i le, lt, width)
+          | inr le ↦ omega (arith, placed_beyond x i le, lt, goes_on.count)
         ];
+        left = goes_on.left;
       }
         where
           fit : Fit from.geometry met.sectors u

@@ -3,8 +3,8 @@ use Rattle.std.specs.Prelude.{◌≡◌, ℕ, ◌+◌, ◌-◌, ◌<◌, ◌≤�
 use Rattle.std.proofs.{Common.{arith, sym, ap, subst, ◌∙◌, inl, inr, length-append}, Math.Seq.{take-add, take-length, take-append-add}, lemmas.Bool.{cases_lt}}
 use Rattle.std.proofs.lemmas.List.{length-take-le, length-map, take-append-drop, take-append-le, take-map}
 use Rattle.mc_flash.specs.{Geometry.{Geometry}, Flash.{Content}, declared.op.Op.{Op}, facts.Changes.{same_content}}
-use Rattle.mc_boot.specs.{Plan.{plan, PowerOn, again}, facts.Run.{happening_prefix}, Outcome.{applied, at, happening, ops_of}}
-use Rattle.mc_boot.proofs.Meets.{Fit, blank, fit_longer, fit_there, Sector, erase_of}
+use Rattle.mc_boot.specs.{Plan.{plan, PowerOn, again}, facts.Run.{happening_prefix}, Outcome.{applied, at, happening, ops_of}, inner.Meets.{Sector, erase_of}}
+use Rattle.mc_boot.proofs.Meets.{Fit, blank, fit_longer, fit_there}
 use Rattle.mc_boot.proofs.Erased.{AreErased, blank_erased, blank_noop, blank_stays, erased_prefix, fit_beyond, fit_blanked, fit_prefix}
 use Rattle.mc_boot.proofs.Joins.{Joins, Met, applied_beyond, applied_longer, erases_applied, happens_all, happens_few_of, meets}
 use lib.Seq.{take-take}

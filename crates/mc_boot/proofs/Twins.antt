@@ -3,10 +3,10 @@
 use Rattle.std.proofs.{Common.{ap, arith, inl, inr, subst, sym, ◌∙◌}, Math.Nat.{mul-le-mul_right}, lemmas.Bool.{cases_Bool}}
 use Rattle.std.specs.Int.{div_ceil}
 use Rattle.std.specs.Prelude.{Bool, List, None, Some, [], false, if◌then◌else◌, length, nat_lt, not, option_map, refl, slice_get, suc, take, true, zero, ℕ, ◌*◌, ◌++◌, ◌+◌, ◌-◌, ◌<◌, ◌∷◌, ◌≡◌, ◌≤◌, ◌||◌}
-use Rattle.mc_boot.proofs.{CourseJoins.{sectors_pieces}, Courses.{get_prefix, some_trailer}, Erased.{blank_noop, erased_here}, Meets.{Fit, SameOutside, Sector, WritesIn, blank_same, erase_in, erase_of, op_outside}, Sections.{get_erase}}
+use Rattle.mc_boot.proofs.{CourseJoins.{sectors_pieces}, Courses.{get_prefix, some_trailer}, Erased.{blank_noop, erased_here}, Meets.{Fit, SameOutside, blank_same, erase_in, op_outside}, Sections.{get_erase}}
 use Rattle.mc_boot.specs.{Boot.{HasCome, Progress, leapt, stepped}, Copies.{AreCopies, whole_copy}, Outcome.{applied, at, happening, is_faulted, left_by, ops_of, outcome_of, report}}
 use Rattle.mc_boot.specs.Plan.{Plan, PowerOn, again, images_of, is_revert, new_plan, new_swap, plan, plan_with, trailer_erase, trailer_erases}
-use Rattle.mc_boot.specs.{Twins.{BeginAlike, ErasesFirst, HasTwin}, declared.image.Images.{Images}, declared.transfer.Copies.{Copies}, facts.Leaps.{come_part, part_is}, facts.Run.{come_at, come_next, next_happens}, inner.Idle.{changes_nothing}}
+use Rattle.mc_boot.specs.{Twins.{BeginAlike, ErasesFirst, HasTwin}, declared.image.Images.{Images}, declared.transfer.Copies.{Copies}, facts.Leaps.{come_part, part_is}, facts.Run.{come_at, come_next, next_happens}, inner.Idle.{changes_nothing}, inner.Meets.{Sector, WritesIn, erase_of}}
 use Rattle.mc_flash.specs.{Flash.{CanTry, Content, IsSized, apply, byte, bytes_of, sectors_of, size_of}, Geometry.{Geometry, IsLayout, greatest_sectors, in_pieces, trailer_bytes, trailer_sectors}}
 use Rattle.mc_flash.specs.{declared.flash.Grain.{Grain}, declared.op.Op.{Op}, declared.op.Op.TheVariants.{Copy, Erase}, declared.op.Slot.{Slot}}
 use Rattle.mc_flash.specs.{declared.op.Slot.TheVariants.{Primary, Secondary}, facts.Changes.{sized_is}, facts.Layouts.{data_before_trailer, data_end, data_sectors, sector_inside, trailer_leaves_one}}

@@ -1,12 +1,12 @@
 //! The boot as a machine that makes one operation at a time.
-ghost use Rattle.std.specs.Prelude.{◌≡◌, ◌+◌, ◌<◌, ◌≤◌, [], length, slice_get, Some, ◌↔◌, IsSome, IfErr, IfSome, MatchResult, OnOk};
+ghost use Rattle.std.specs.Prelude.{◌≡◌, ◌+◌, ◌<◌, ◌≤◌, [], length, slice_get, Some, IfErr, IfSome, MatchResult, OnOk};
 ghost use Rattle.mc_trailer.specs.Trailer.{highest_entry};
 ghost use Rattle.mc_flash.specs.Geometry.{Geometry};
 ghost use Rattle.mc_flash.specs.Flash.{Content, CanTry};
 ghost use Rattle.mc_flash.specs.Usage.{Does, Keeps, RanOut, Spends, Allows};
 ghost use Rattle.mc_boot.specs.facts.Steps.{Comes};
 ghost use Rattle.mc_trailer.specs.declared.tables.Rules.{Rules};
-ghost use Rattle.mc_boot.specs.Joins.{IsCut, operations_kept};
+ghost use Rattle.mc_boot.specs.Joins.{IsCut};
 ghost use Rattle.mc_boot.specs.Boot.{progress, IsBootOf, begun};
 ghost use Rattle.mc_boot.specs.Outcome.{shown, outcome_of, left_by};
 ghost use Rattle.mc_boot.specs.Plan.{images_of, confirms, nothing, new_swap, new_plan, resumed_swap, resumed_plan, plan, PowerOn, again, power_on, powered};
@@ -483,7 +483,6 @@ impl Boot {
 /// same swap again, and where the cut is before the first operation. It leaves the flash then that the other would have left.
 /// Elsewhere there is none, and the boot has to be run. The two boots are compared in constant time, and no flash is read.
 pub fn outcome_after(cut: &Boot, whole: &Outcome, next: &Boot) -> Option<Outcome>
-    ensures found { IsSome result ↔ IsSome (operations_kept cut.now next.now) }
     ensures outcome { (x : PowerOn) (u : Content) → IsCut x u cut.now (shown whole.now)
         → IsBootOf x.geometry next.now → progress next.now ≡ begun x.rules (plan (again x u))
         → IfSome result (λ outcome. outcome_of (again x u) ≡ Some (shown outcome)) }

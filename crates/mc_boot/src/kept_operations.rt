@@ -1,7 +1,9 @@
 //! Where the boot after a power cut goes on with the boot that was cut.
-ghost use Rattle.std.specs.Prelude.{◌≡◌, ℕ, ◌≤◌, IfSome};
+ghost use Rattle.std.specs.Prelude.{◌≡◌, Bool, ◌*◌, ◌≤◌, IfSome, true};
 ghost use Rattle.mc_flash.specs.Geometry.{IsLayout};
-ghost use Rattle.mc_boot.specs.Joins.{is_same_swap, starts_as, comes_to, harmless_opening_len, harmless_transfer_len, kept_from, kept_of};
+ghost use Rattle.mc_boot.specs.Boot.{list_from};
+ghost use Rattle.mc_boot.specs.Plan.{resumed_list};
+ghost use Rattle.mc_boot.specs.inner.Meets.{GoesOnWith, IsHarmless, IsRestOf};
 ghost use Rattle.mc_boot.specs.declared.course.Opening.TheVariants.{New, Resumed};
 
 use crate::course::{Course, Opening};
@@ -12,14 +14,14 @@ use mc_trailer::SwapType;
 
 /// Whether two courses swap as many sectors, by one grain.
 fn is_same_swap(a: &Course, b: &Course) -> bool
-    ensures { result ≡ is_same_swap a.now b.now }
+    ensures { result ≡ true → (a.now.grain ≡ b.now.grain) × (a.now.sectors ≡ b.now.sectors) }
 {
     a.grain == b.grain && a.sectors == b.sectors
 }
 
 /// Whether a course begins as a swap of that type whose larger image has that size.
 fn starts_as(opening: Opening, kind: SwapType, size: u32) -> bool
-    ensures { result ≡ starts_as opening kind size }
+    ensures { result ≡ true → opening ≡ New kind size }
 {
     match opening {
         Opening::New {
@@ -32,7 +34,10 @@ fn starts_as(opening: Opening, kind: SwapType, size: u32) -> bool
 
 /// Whether a course that begins so comes to that transfer of the next course, or to the erases before it, with that finish.
 fn comes_to(opening: Opening, next: &Course, first: u32, erases: bool, image_ok: bool) -> bool
-    ensures { result ≡ comes_to next.now.sectors opening first erases image_ok }
+    requires { first ≤ 3 * next.now.sectors }
+    ensures { result ≡ true
+        → IsRestOf (resumed_list next.now.layout next.now.sectors first erases image_ok)
+        (list_from next.now.grain next.now.layout next.now.sectors opening) }
 {
     // Reading a field gives the prover that it is a layout.
     let _sector = next.layout.sector();
@@ -55,7 +60,8 @@ fn comes_to(opening: Opening, next: &Course, first: u32, erases: bool, image_ok:
 
 /// How many operations of a swap from its start write only in the trailer that it begins with erasing.
 fn harmless_opening_len(course: &Course, kind: SwapType, size: u32) -> u32
-    ensures { result ≡ harmless_opening_len course.now.grain course.now.layout kind size }
+    requires { course.now.opening ≡ New kind size }
+    ensures { IsHarmless course.now result }
 {
     // Reading a field gives the prover that it is a layout.
     let _unit = course.layout.unit();
@@ -69,8 +75,9 @@ fn harmless_opening_len(course: &Course, kind: SwapType, size: u32) -> u32
 
 /// How many operations of a course from a transfer on write only in the sectors that it begins with erasing.
 fn harmless_transfer_len(course: &Course, first: u32, erases: bool) -> u32
-    ensures harmless_len { result ≡ harmless_transfer_len course.now.layout course.now.sectors
-        first erases }
+    requires { first ≤ 3 * course.now.sectors }
+    ensures harmless { (image_ok : Bool) → course.now.opening ≡ Resumed first erases image_ok
+        → IsHarmless course.now result }
     ensures at_most { result ≤ 400000 }
 {
     // The last operation of a transfer is its entry.
@@ -86,7 +93,8 @@ fn harmless_transfer_len(course: &Course, first: u32, erases: bool) -> u32
 
 /// `count_kept` where the next course is a swap from its start.
 fn begins_anew(cut: &Course, done: u32, next: &Course, kind: SwapType, size: u32) -> Option<u32>
-    ensures test { result ≡ kept_from cut.now done next.now (New kind size) }
+    requires { next.now.opening ≡ New kind size }
+    ensures meets { IfSome result (GoesOnWith cut.now done next.now) }
     ensures at_most { IfSome result (λ kept. kept ≤ 204000000) }
 {
     if !is_same_swap(cut, next) {
@@ -108,7 +116,8 @@ fn goes_on(
     erases: bool,
     image_ok: bool,
 ) -> Option<u32>
-    ensures test { result ≡ kept_from cut.now done next.now (Resumed first erases image_ok) }
+    requires { next.now.opening ≡ Resumed first erases image_ok }
+    ensures meets { IfSome result (GoesOnWith cut.now done next.now) }
     ensures at_most { IfSome result (λ kept. kept ≤ 204000000) }
 {
     // Reading a field gives the prover that it is a layout.
@@ -137,7 +146,7 @@ fn goes_on(
 /// How many operations of a course that was cut after so many the next one does not make again, where it goes on with it.
 /// None elsewhere.
 pub fn count_kept(cut: &Course, done: u32, next: &Course) -> Option<u32>
-    ensures test { result ≡ kept_of cut.now done next.now }
+    ensures meets { IfSome result (GoesOnWith cut.now done next.now) }
     ensures at_most { IfSome result (λ kept. kept ≤ 204000000) }
     ensures valid { IsLayout next.now.layout }
 {

@@ -4,9 +4,9 @@ use Rattle.std.proofs.{lemmas.List.{get_or_past, length-map}}
 use Rattle.std.specs.{Int.{div_ceil}, List.{AllByRecursion, range_with_len}}
 use Rattle.std.specs.Prelude.{Bool, List, None, Option, Some, [], false, if◌then◌else◌, is_none, length, map, nat_lt, not, refl, suc, take, true, zero, ℕ, ◌%◌, ◌*◌, ◌++◌, ◌+◌, ◌-◌, ◌/◌, ◌<◌, ◌==◌, ◌≡◌, ◌≤◌, ◌||◌, ◌⊎◌}
 use Rattle.mc_boot.proofs.{CourseJoins.{all_both, trailer_erased, trailer_of_slot, trailer_sector, trailer_there}, Courses.{greatest_pieces}, Joins.{same_run}}
-use Rattle.mc_boot.proofs.Meets.{IsListed, Sector, all_weaker, blank, blank_same, erase_of, fit_there, which_slot}
+use Rattle.mc_boot.proofs.Meets.{all_weaker, blank, blank_same, fit_there, which_slot}
 use Rattle.mc_boot.specs.Outcome.{left_by}
-use Rattle.mc_boot.specs.{declared.image.Images.{Images}}
+use Rattle.mc_boot.specs.{declared.image.Images.{Images}, inner.Meets.{IsListed, Sector, erase_of}}
 use Rattle.mc_boot.specs.Plan.{confirms, first_left, images_of, is_revert, new_list, new_plan, new_swap, nothing, plan, plan_with, power_on, preparation_writes, resumed_from, resumed_list, resumed_plan, resumed_swap, swap_list, trailer_erases}
 use Rattle.mc_flash.specs.{Flash.{Content, byte, bytes_of, sectors_of, size_of}, Geometry.{Geometry, IsLayout, greatest_sectors, in_pieces, trailer_sectors}}
 use Rattle.mc_flash.specs.{declared.flash.Grain.{Grain}, declared.op.Op.{Op}, declared.op.Slot.{Slot}, declared.op.Slot.TheVariants.{Primary, Secondary}}

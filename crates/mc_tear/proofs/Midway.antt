@@ -3,10 +3,10 @@ use Rattle.std.proofs.{Common.{ap, arith, inl, inr, subst, sym, ◌∙◌}, Math
 use Rattle.std.specs.{Int.{div_ceil}}
 use Rattle.std.specs.Prelude.{Bool, List, Some, [], false, flat_map, if◌then◌else◌, is_none, length, map, nat_lt, refl, slice_get, suc, take, true, zero, ℕ, ◌*◌, ◌++◌, ◌+◌, ◌-◌, ◌<◌, ◌==◌, ◌∷◌, ◌≡◌, ◌≤◌, ◌||◌, ◌⊎◌}
 use Rattle.mc_boot.proofs.{CourseJoins.{target, trailer_erased, trailer_of_slot, trailer_there}, Courses.{drop_at_place}, Keeps.{place_beyond_data}, Plans.{plan_resumed}, Twins.{same_plan}}
-use Rattle.mc_boot.proofs.Meets.{AreThere, IsListed, SameOutside, Sector, blank_same, erase_of, fit_there, which_slot}
+use Rattle.mc_boot.proofs.Meets.{SameOutside, blank_same, fit_there, which_slot}
 use Rattle.mc_boot.proofs.Transfers.{entry_number, left_at, number_up, other_number}
 use Rattle.mc_boot.specs.{Life.{is_swap}, Plan.{Plan, closing, confirms, first_left, from_transfer, nothing, plan, power_on, resumed_list, resumed_plan, resumed_swap, steps, trailer_erases, transfers}}
-use Rattle.mc_boot.specs.{declared.transfer.Transfer.{Transfer}}
+use Rattle.mc_boot.specs.{declared.transfer.Transfer.{Transfer}, inner.Meets.{AreThere, IsListed, Sector, erase_of}}
 use Rattle.mc_flash.specs.{Flash.{CanTry, Content, IsSized, apply, byte}, Geometry.{Geometry, IsLayout, greatest_sectors, in_pieces}, declared.flash.Grain.{Grain}, declared.op.Op.{Op}}
 use Rattle.mc_flash.specs.{declared.op.Op.TheVariants.{Copy, Erase, Program}, declared.op.Slot.{Slot}, declared.op.Slot.TheVariants.{Primary, Secondary}}
 use Rattle.mc_flash.specs.facts.{Changes.{changed_sized, sized_is}, Layouts.{data_before_trailer, data_end, data_sectors}}

@@ -2,9 +2,9 @@
 use Rattle.std.proofs.{Common.{ap, arith, inl, inr, subst, sym, ◌∙◌}}
 use Rattle.std.specs.{Int.{div_ceil}}
 use Rattle.std.specs.Prelude.{false, Some, length, map, refl, take, true, ℕ, ◌<◌, ◌≡◌, ◌≤◌, ⊤}
-use Rattle.mc_boot.proofs.{CourseJoins.{trailer_of_slot}, Meets.{erase_of, which_slot}, Phases.{new_is, new_swap_is, starting}}
+use Rattle.mc_boot.proofs.{CourseJoins.{trailer_of_slot}, Meets.{which_slot}, Phases.{new_is, new_swap_is, starting}}
 use Rattle.mc_boot.specs.Plan.{Plan, images_of, new_swap, plan, power_on}
-use Rattle.mc_boot.specs.{Torn.{IsTorn}, declared.image.Images.{Images}}
+use Rattle.mc_boot.specs.{Torn.{IsTorn}, declared.image.Images.{Images}, inner.Meets.{erase_of}}
 use Rattle.mc_flash.specs.{Flash.{Content, IsSized, apply}, Geometry.{Geometry, IsLayout, greatest_sectors}, declared.op.Op.{Op}}
 use Rattle.mc_flash.specs.{declared.op.Slot.{Slot}, declared.op.Slot.TheVariants.{Primary, Secondary}}
 use Rattle.mc_flash.specs.facts.{Changes.{Changed, changed_sized}, Layouts.{data_end}}

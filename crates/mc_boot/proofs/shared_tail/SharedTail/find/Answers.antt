@@ -1,5 +1,5 @@
-use Rattle.std.proofs.Common.{◌≡◌, arith, Some, sym, ap, ◌∙◌}
-use Rattle.mc_boot.specs.Joins.{erases_of, kept_of}
+use Rattle.std.proofs.Common.{◌≡◌, arith, Some, sym, ◌∙◌}
+use Rattle.mc_boot.specs.{Joins.{erases_of}, inner.Meets.{GoesOnWith}}
 use Rattle.mc_boot.proofs.SharedTailProof.{tail_shared_among, tail_shared_beyond}
 use Rattle.mc_boot.proofs.shared_tail.SharedTail.find.Goals as goal
 use Rattle.mc_boot.proofs.shared_tail.SharedTail.find.Goals.{then-done-kept, else-done-kept+in_ok-only}
@@ -16,15 +16,14 @@ returns g c =
     let at_a : c.args.cut.now.course ≡ Some a = cc in
     let at_b : c.args.next.now.course ≡ Some b = cc in
     let done : c.count-done.result ≡ c.args.cut.now.done = c.count-done.ensures in
-    let found : kept_of a c.args.cut.now.done b ≡ Some c.in_ok-kept.kept =
-    ap (λ n. kept_of a n b) (sym done) ∙ sym c.count_kept.ensures.test ∙ c.in_ok-kept.was in
+    let goes : GoesOnWith a c.args.cut.now.done b c.in_ok-kept.kept = rw done at c.in_ok-kept.ensures.meets in
     let erases : c.erases_of-erases.result ≡ erases_of b = c.erases_of-erases.ensures.count in
     λ r s whole is start. elim c.if-done-kept.branch [
       | then-done-kept w ↦
-          tail_shared_among (power_on r seen.geometry s) seen.content c.args.cut.now c.args.next.now a b whole _ is at_a at_b c.requires start c.count_kept.ensures.valid
-          found done erases (omega (arith, w.if-done-kept.true))
+          tail_shared_among (power_on r seen.geometry s) seen.content c.args.cut.now c.args.next.now a b whole _ is at_a at_b c.requires start
+          goes done erases (omega (arith, w.if-done-kept.true))
       | else-done-kept+in_ok-only w ↦
-          tail_shared_beyond (power_on r seen.geometry s) seen.content c.args.cut.now c.args.next.now a b whole _ is at_a at_b c.requires start c.count_kept.ensures.valid
-          found done erases (omega (arith, w.if-done-kept.false))
+          tail_shared_beyond (power_on r seen.geometry s) seen.content c.args.cut.now c.args.next.now a b whole _ is at_a at_b c.requires start
+          goes done erases (omega (arith, w.if-done-kept.false))
           (λ i lt other. w.in_ok-only.ensures i lt (λ same. other (same ∙ sym w.only-is)))
     ]
