@@ -5,16 +5,20 @@ use Rattle.std.proofs.lemmas.List.{length-take-le, take_all, take_more}
 use Rattle.mc_tree.specs.Tree.{Tree, labelled, landed, RoundNode, round_one, round_two, label, labels}
 use Rattle.mc_tree.specs.{facts.Order.{allowed-last, allowed_prefix, not_same, paths_in_order, pairs_in_order}, facts.Rounds.{inside, outside, pairs_precede}}
 use Rattle.mc_flash.specs.{Geometry.{IsLayout}, Usage.{most_operations}, facts.Usage.{few_operations}}
-use Rattle.mc_campaign.proofs.Ways.{of_second}
+use Rattle.mc_explore.proofs.BootWays.{of_second}
 use Rattle.mc_boot.specs.{Plan.{PowerOn, again}, Outcome.{ops_of}, facts.Bounds.{few_ops}}
 use Rattle.mc_walk.specs.{Walks.{Walked, GoesDown, IsSame, IsThere}, facts.Same.{path_back, same_back}}
 use Rattle.mc_explore.specs.{inner.OneRound.{IsOf}, facts.Summaries.{width_is}, inner.Exploring.{NoAllocationFailed}}
 use Rattle.mc_explore.specs.Boots.{boots}
-use Rattle.mc_campaign.specs.{inner.TwoRounds.{model_of, AreSummaries}, Campaigns.{IsMember}}
-use Rattle.mc_campaign.specs.Rounds.{cuts_along, rounds, second_start}
+use Rattle.mc_campaign.specs.{inner.TwoRounds.{model_of}, Campaigns.{IsMember}}
+use Rattle.mc_campaign.specs.Rounds.{cuts_along}
 use Rattle.mc_campaign.specs.inner.View.{FollowsCampaign, HasChildOf, IsPathIn, begun_of}
-use Rattle.mc_campaign.specs.declared.campaign.Round.TheVariants as rounds_of
-use Rattle.mc_campaign.specs.{declared.rounds.Both.{Both}, declared.rounds.TwoRounds.{TwoRounds}, facts.Paths.{path_of}}
+use Rattle.mc_explore.specs.declared.rounds.Round.TheVariants as rounds_of
+use Rattle.mc_explore.specs.declared.rounds.Rounds.TheVariants as kinds
+use Rattle.mc_campaign.specs.{declared.rounds.TwoRounds.{TwoRounds}, facts.Paths.{path_of}}
+use Rattle.mc_explore.specs.Rounds.{second_start, tree_of}
+use Rattle.mc_explore.specs.declared.rounds.Both.{Both}
+use Rattle.mc_explore.specs.inner.BootTree.{AreSummaries}
 
 -- ---- labels along a path
 
@@ -51,7 +55,7 @@ module _ (c : List (ℕ × ℕ)) (old : Walked TwoRounds) where
   cuts path = cuts_along old.flash_tree.confirms (begun_of old) path
 
   abbrev tree : Tree (RoundNode PowerOn)
-  tree = rounds old.flash_tree.confirms
+  tree = tree_of old.flash_tree.confirms
 
   abbrev name : RoundNode PowerOn → ℕ → ℕ × ℕ
   name = label boots (second_start old.flash_tree.confirms)
@@ -68,13 +72,14 @@ module _ (c : List (ℕ × ℕ)) (old : Walked TwoRounds) where
   along_begin stands root = grind arith
 
   module _ (n : ℕ) (mid : Walked TwoRounds) (a : IsAlong n mid) (inside : n < length c) (summary : Both) (there : IsThere (model_of mid.flash_tree) mid summary) (number : Option ℕ)
-      (child : (start : PowerOn) (confirms : Bool) (p : RoundNode PowerOn) → IsLayout start.geometry → AreSummaries start confirms p summary → HasChildOf confirms p (get_or c n (0, 0)) number)
+      (child : (start : PowerOn) (confirms : Bool) (p : RoundNode PowerOn) → IsLayout start.geometry → AreSummaries start (kinds.Two confirms) p summary
+      → HasChildOf confirms p (get_or c n (0, 0)) number)
       (valid : IsLayout (begun_of old).geometry) where
     -- The node where it stands.
     abbrev here : RoundNode PowerOn
     here = landed tree (round_one (begun_of old)) mid.path
 
-    summary_here : AreSummaries (begun_of old) old.flash_tree.confirms here summary
+    summary_here : AreSummaries (begun_of old) (kinds.Two old.flash_tree.confirms) here summary
     summary_here = subst (λ (b : TwoRounds). (model_of b).IsSummary (landed (model_of b).tree (model_of b).root mid.path) summary) a.same.flash_tree there.summary_is
 
     abbrev named : ℕ → ℕ × ℕ
@@ -117,7 +122,7 @@ module _ (c : List (ℕ × ℕ)) (old : Walked TwoRounds) where
         let both : take n c ++ named j ∷ [] ≡ take n c ++ get_or c n (0, 0) ∷ [] =
         ap (λ z. z ++ named j ∷ []) (sym a.cuts_are) ∙ sym (labelled-push tree name (round_one s) mid.path j) ∙ ap cuts (sym more) ∙ at in
         let at_most : length (take (n + 1) l) ≤ old.bound = omega (arith, length-take-le (n + 1) l (omega (arith, below)), below, p.1.member.0) in
-        let member : IsPathIn old (mid.path ++ j ∷ []) = subst (IsPathIn old) more (at_most, allowed_prefix (rounds k) (round_one s) l (n + 1) p.1.member.1) in
+        let member : IsPathIn old (mid.path ++ j ∷ []) = subst (IsPathIn old) more (at_most, allowed_prefix (tree_of k) (round_one s) l (n + 1) p.1.member.1) in
         (j, member, (is_child j member).0 (last_same (take n c) (named j) (get_or c n (0, 0)) both))
 
     pub none_there : number ≡ None → IsMember (begun_of old) old.flash_tree.confirms old.bound c → ⊥
@@ -155,7 +160,7 @@ module _ (start : PowerOn) (confirms : Bool) (valid : IsLayout start.geometry) (
   same_some : (x y : ℕ) → Some x ≡ Some y → x ≡ y
   same_some x y e = cc
 
-  module _ (p : RoundNode PowerOn) (round : summary.round ≡ rounds_of.First) (t : AreSummaries start confirms p summary) (cut : ℕ × ℕ) where
+  module _ (p : RoundNode PowerOn) (round : summary.round ≡ rounds_of.First) (t : AreSummaries start (kinds.Two confirms) p summary) (cut : ℕ × ℕ) where
     -- It is a node of the first round, whose boot makes so many operations.
     abbrev IsFirst : Type 0
     IsFirst = (s : PowerOn) × (p ≡ round_one s) × (summary.first.outcome.ops ≡ length (ops_of s)) × IsOf start s
@@ -163,7 +168,7 @@ module _ (start : PowerOn) (confirms : Bool) (valid : IsLayout start.geometry) (
     is_first : IsFirst
     is_first = by p t
       where
-        by : (q : RoundNode PowerOn) → AreSummaries start confirms q summary → (s : PowerOn) × (q ≡ round_one s) × (summary.first.outcome.ops ≡ length (ops_of s)) × IsOf start s
+        by : (q : RoundNode PowerOn) → AreSummaries start (kinds.Two confirms) q summary → (s : PowerOn) × (q ≡ round_one s) × (summary.first.outcome.ops ≡ length (ops_of s)) × IsOf start s
         by (round_one s) u = (s, refl, width_is s summary.first u.first_is.1, u.first_is.0)
         by (round_two began s) u = absurd (let no : rounds_of.First ≡ rounds_of.Second = sym round ∙ u.round_is in cc)
 
@@ -202,7 +207,7 @@ module _ (start : PowerOn) (confirms : Bool) (valid : IsLayout start.geometry) (
                   arith,
                   some,
                   few_at f.0 f.3,
-                  few_at (second_start confirms f.0) (of_second start confirms f.0 f.3),
+                  few_at (second_start confirms f.0) (of_second start (kinds.Two confirms) f.0 f.3),
                   few_operations start.rules.grain start.geometry valid,
                 )),
             λ e.

@@ -3,15 +3,18 @@ use Rattle.std.proofs.Common.{Bool, List, Some, [], ap, arith, false, length, re
 use Rattle.std.proofs.lemmas.Bool.Decides.{nat_tests}
 use Rattle.std.specs.Prelude.{if◌then◌else◌, nat_lt, ◌-◌, ◌+◌, ◌<◌, ◌≤◌}
 use Rattle.mc_boot.specs.{Outcome.{Report, ops_of, outcome_of, shown}, Plan.{PowerOn}, SharedTail.{index_in_parent}, declared.outcome.Outcome.{Outcome}}
-use Rattle.mc_campaign.proofs.{Along.{labelled-push}, Ways.{child}}
+use Rattle.mc_campaign.proofs.Along.{labelled-push}
+use Rattle.mc_explore.proofs.BootWays.{child}
 use Rattle.mc_campaign.specs.{Campaigns.{IsInOrder}, declared.last_cuts.Ahead.{Ahead}, declared.last_cuts.Ends.{Ends}, declared.rounds.TwoRounds.{TwoRounds}}
 use Rattle.mc_campaign.specs.{Rows.{HasOutcomes, ShownRow}, facts.Cuts.{along_ordered, number_later}, facts.Paths.{replayed_at}}
-use Rattle.mc_campaign.specs.inner.LastCuts.{AreAhead, AreLikePaths, EndSo, EndSoAt, IsLikeNode, cut_at, first_there, first_width, left_in_round, node_of}
-use Rattle.mc_campaign.specs.inner.TwoRounds.{began_at, later_from}
-use Rattle.mc_campaign.specs.Rounds.{cuts_along, rounds, second_start}
+use Rattle.mc_campaign.specs.inner.LastCuts.{AreAhead, AreLikePaths, EndSo, EndSoAt, cut_at, first_there, left_in_round, node_of}
+use Rattle.mc_campaign.specs.Rounds.{cuts_along}
 use Rattle.mc_explore.specs.{declared.at_cuts.AtCuts.{AtCuts}, inner.OneRound.{begins}}
 use Rattle.mc_explore.specs.Boots.{boots}
 use Rattle.mc_tree.specs.{Tree.{Allowed, RoundNode, label, round_one, round_two}, facts.Order.{landed-push}, facts.Rounds.{outside}}
+use Rattle.mc_explore.specs.Rounds.{second_start, tree_of}
+use Rattle.mc_explore.specs.inner.BootEnds.{IsLikeNode}
+use Rattle.mc_explore.specs.inner.BootTree.{began_at, first_width, later_from}
 
 -- The child of a node by its round and its number there.
 label_is : (confirms : Bool) (p : RoundNode PowerOn) (i : ℕ) → label boots (second_start confirms) p i ≡ cut_at (first_width p) i
@@ -39,7 +42,7 @@ ends_there confirms (round_two began s) (round_two other y) i ends first like to
 
 -- The next row after a path.
 module _ (t : TwoRounds) (kept : AtCuts Ends) (path : List ℕ) (ahead : Ahead) (count next : ℕ) (are : AreAhead t kept path ahead count)
-    (allowed : Allowed (rounds t.confirms) (round_one (begins t.one_round)) (path ++ next ∷ [])) where
+    (allowed : Allowed (tree_of t.confirms) (round_one (begins t.one_round)) (path ++ next ∷ [])) where
   abbrev start : PowerOn
   start = begins t.one_round
 
@@ -50,7 +53,7 @@ module _ (t : TwoRounds) (kept : AtCuts Ends) (path : List ℕ) (ahead : Ahead) 
   campaign_there =
       ap (λ c. c ++ cut_at ahead.in_first next ∷ []) are.campaign_is
       ∙ ap (λ n. cuts_along t.confirms start path ++ n ∷ []) (ap (λ n. cut_at n next) are.in_first_is ∙ sym (label_is t.confirms (node_of t path) next))
-      ∙ sym (labelled-push (rounds t.confirms) (label boots (second_start t.confirms)) (round_one start) path next)
+      ∙ sym (labelled-push (tree_of t.confirms) (label boots (second_start t.confirms)) (round_one start) path next)
 
   pub campaign_ordered : IsInOrder (ahead.campaign ++ cut_at ahead.in_first next ∷ [])
   campaign_ordered = subst IsInOrder (sym campaign_there) (along_ordered boots (second_start t.confirms) (round_one start) then_path)
@@ -60,7 +63,7 @@ module _ (t : TwoRounds) (kept : AtCuts Ends) (path : List ℕ) (ahead : Ahead) 
       → HasOutcomes start t.confirms (record { campaign = cuts_along t.confirms start then_path; first = shown (first_there ahead ends next); second = shown ends.second })
   outcomes_there ends like told =
       let node : List ℕ → RoundNode PowerOn = node_of t in
-      let at = landed-push (rounds t.confirms) (round_one start) path next in
+      let at = landed-push (tree_of t.confirms) (round_one start) path next in
       let q : RoundNode PowerOn = node (kept.parent_path ++ index_in_parent ahead.shared_tail next ∷ []) in
       let like_child = subst (λ n. IsLikeNode n q) at like in
       let ends = ends_there t.confirms (node path) q next ends ahead.first like_child told are.first_is in

@@ -1,6 +1,3 @@
-mod Tails
-mod Ways
-mod Steps
 mod Restarts
 mod CutsInRounds
 mod Loaded

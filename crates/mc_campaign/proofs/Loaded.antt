@@ -6,7 +6,7 @@ use Rattle.mc_boot.specs.Plan.{PowerOn}
 use Rattle.mc_walk.specs.inner.Stack.{most_at}
 use Rattle.mc_boot.specs.Restart.{one_write}
 use Rattle.mc_explore.specs.inner.OneRound.{one_round}
-use Rattle.mc_campaign.specs.facts.Keys.{some_operations}
+use Rattle.mc_explore.specs.facts.BootRoom.{some_operations}
 
 -- A flash loaded for two boots more than so many cuts have room for, on which no more was counted than those cuts and a boot make, has
 -- room for one write more.

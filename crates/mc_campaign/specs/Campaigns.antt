@@ -1,12 +1,10 @@
 -- Campaigns of power cuts in two rounds: which can occur, and what they come to (docs/MODEL.md, "Campaigns of power cuts").
 use Rattle.std.specs.Prelude.{Bool, List, Some, [], if◌then◌else◌, length, ℕ, ⊤, ◌+◌, ◌==◌, ◌∷◌, ◌≡◌, ◌≤◌, ◌⊎◌}
 use Rattle.mc_boot.specs.{Outcome.{Report, after, left_by}, Plan.{PowerOn, again}, Restart.{confirmed_if}}
-use Rattle.mc_campaign.specs.declared.campaign.Round.{Round}
 use Rattle.mc_explore.specs.{Schedules.{CannotOccurAt}, declared.replays.ReplayError.{ReplayError}}
 use Rattle.mc_flash.specs.Flash.{Content}
 use Rattle.mc_tree.specs.Tree.{PairsPrecede}
 use Rattle.mc_explore.specs.declared.replays.ReplayError.TheVariants as errors
-use Rattle.mc_campaign.specs.declared.campaign.Round.TheVariants as rounds
 use Rattle.mc_explore.specs.Schedules as schedules
 
 -- Campaigns of power cuts in two rounds.
@@ -25,12 +23,6 @@ IsInOrder cuts = AscendFrom 1 cuts
 abbrev pub in_round : ℕ → List (ℕ × ℕ) → List ℕ
 in_round round [] = []
 in_round round (cut ∷ cuts) = if cut.0 == round then cut.1 ∷ in_round round cuts else in_round round cuts
-
--- The two rounds of a campaign, as callers name them.
-
-abbrev pub number_of : Round → ℕ
-number_of rounds.First = 1
-number_of rounds.Second = 2
 
 -- The campaigns that can occur, and their order: this project's own choice.
 

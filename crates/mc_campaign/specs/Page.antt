@@ -12,13 +12,6 @@ PageIsOut = pages.PageIsOut (rows_of campaigns)
 abbrev pub PageBegan : State → ℕ → Option (List ℕ) → Option (List ℕ) → Type 0
 PageBegan = pages.PageBegan (rows_of campaigns)
 
--- The page of the rows before a campaign is out, or a beginning of it.
-abbrev pub ShownIsOut : Option (List (ℕ × ℕ)) → State → State → ℕ → Option (List ℕ) → Option (List ℕ) → Type 0
-ShownIsOut = pages.ShownIsOut (rows_of campaigns)
-
-abbrev pub ShownBegan : Option (List (ℕ × ℕ)) → State → ℕ → Option (List ℕ) → Option (List ℕ) → Type 0
-ShownBegan = pages.ShownBegan (rows_of campaigns)
-
 -- Where an explorer is after the first so many of the rows to come.
 abbrev pub state_past : State → ℕ → List ShownRow → State
 state_past = pages.state_past (rows_of campaigns)

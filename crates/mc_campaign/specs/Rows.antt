@@ -2,10 +2,10 @@
 use Rattle.std.specs.Prelude.{Bool, List, Result, Some, [], codes, false, true, ℕ, ◌*◌, ◌++◌, ◌+◌, ◌≡◌, ◌≢◌}
 use Rattle.mc_boot.specs.{Outcome.{Report, after, shown}, Plan.{PowerOn, again}}
 use Rattle.mc_boot.specs.Restart.{BeginsImage, EndsAgain, EndsIn, confirmed_if, forgets_reverts, has_revert, named, other, start_flash}
-use Rattle.mc_boot.specs.{declared.kind.Kind.{Kind}, declared.outcome.BootResult.{BootResult}}
+use Rattle.mc_boot.specs.declared.kind.Kind.{Kind}
 use Rattle.mc_campaign.specs.{Campaigns.{AreReplayed, IsMember, Precedes, in_round}, Texts.{campaign_text, cursor_of, cursor_text, fields_of}}
 use Rattle.mc_campaign.specs.{declared.cursor.CampaignCursor.{CampaignCursor}, declared.row.CampaignRow.{CampaignRow}}
-use Rattle.mc_explore.specs.{Rows.{outcome_text, slots_text}, Schedules.{IsSwapOutcome}, Subject.{Subject}, declared.error.ExploreError.{ExploreError}}
+use Rattle.mc_explore.specs.{Rounds.{end_result}, Rows.{outcome_text, slots_text}, Schedules.{IsSwapOutcome}, Subject.{Subject}, declared.error.ExploreError.{ExploreError}}
 use Rattle.mc_flash.specs.{Flash.{Content}, Geometry.{Geometry, IsLayout}, Usage.{most_operations}}
 use Rattle.mc_image.specs.Valid.{id_of}
 use Rattle.mc_trailer.specs.declared.tables.Rules.{Rules}
@@ -42,12 +42,6 @@ abbrev pub shown_row : CampaignRow → ShownRow
 shown_row row = record { campaign = row.campaign; first = shown row.first; second = shown row.second }
 
 -- How a campaign ends: as its second round does; but where the first does not end in a boot, with the result of the first.
-abbrev pub end_result : BootResult → BootResult → BootResult
-end_result results.Boot second = second
-end_result results.None second = results.None
-end_result results.Panic second = results.Panic
-end_result results.Fault second = results.Fault
-
 abbrev pub end_by : Report → Report → Report
 end_by first second = record second { result = end_result first.result second.result }
 

@@ -1,12 +1,13 @@
 //! Campaigns of power cuts.
-ghost use Rattle.std.specs.Prelude.{◌≡◌, ◌↔◌, ℕ, List, ◌+◌, ◌*◌, ◌<◌, ◌≤◌, ◌^◌, [], ◌∷◌, ◌++◌, length, decimal, false, is_some, true, Some, Ok, IfOk, IfSome, OnOk, OnErr, MatchResult};
+ghost use Rattle.std.specs.Prelude.{◌≡◌, ◌↔◌, ℕ, List, ◌+◌, ◌*◌, ◌<◌, ◌≤◌, [], ◌∷◌, ◌++◌, length, decimal, false, is_some, true, Some, Ok, IfOk, IfSome, OnOk, OnErr, MatchResult};
 ghost use Rattle.mc_tree.specs.Tree.{Before};
-ghost use Rattle.mc_campaign.specs.Campaigns.{IsInOrder, Precedes, in_round, number_of};
+ghost use Rattle.mc_campaign.specs.Campaigns.{IsInOrder, Precedes, in_round};
+ghost use Rattle.mc_explore.specs.Rounds.{number_of};
 ghost use Rattle.mc_campaign.specs.Texts.{campaign_text, cut_text, FitsCut, IsAdded, IsCampaign, IsCut, ReadsCampaign};
 ghost use Rattle.mc_campaign.specs.facts.Cuts.{last_round, number_later};
 ghost use Rattle.mc_start.specs.Start.{IsNextText, on_last};
 
-use mc_explore::{Line, MOST_CUTS, MOST_LINE, Schedule};
+use mc_explore::{Line, MOST_CUTS, MOST_LINE, Round, Schedule};
 use std::fmt;
 use std::marker::Model;
 use thiserror::Error;
@@ -15,13 +16,6 @@ use thiserror::Error;
 #[derive(Clone, Copy, Debug, PartialEq, Eq, Error)]
 #[error("E62 CampaignSyntax")]
 pub struct CampaignError;
-
-/// A round of a campaign. Between the two the image may confirm itself.
-#[derive(Clone, Copy, Debug, PartialEq, Eq)]
-pub enum Round {
-    First,
-    Second,
-}
 
 /// At most 16 power cuts in two rounds, each with its round, none of the first after one of the second. A round is power-on with
 /// its cuts and one whole boot; the second starts from the flash that the first leaves. It takes no memory.
@@ -46,18 +40,6 @@ impl Model for Campaign {
     ghost inverse = { λ l. record { cuts = l ++ blanks_after (length l); len = length l } };
 
     ghost inverse_ok = { λ c h i. record { cuts = room_again c.cuts c.len h.1 h.0 h.2 i; len = len_again c.cuts c.len h.1 h.0 i } };
-}
-
-impl Round {
-    /// 1 or 2.
-    pub fn number(self) -> u8
-        ensures { result ≡ number_of self }
-    {
-        match self {
-            Round::First => 1,
-            Round::Second => 2,
-        }
-    }
 }
 
 // The number of a round as text.

@@ -1,14 +1,16 @@
 //! A walk along the path of a campaign.
-ghost use Rattle.std.specs.Prelude.{◌≡◌, ℕ, Bool, [], true, IfOk, OnOk};
+ghost use Rattle.std.specs.Prelude.{◌≡◌, Bool, [], true, IfOk, OnOk};
 ghost use Rattle.mc_tree.specs.Tree.{RoundNode};
 ghost use Rattle.mc_boot.specs.Plan.{PowerOn};
 ghost use Rattle.mc_flash.specs.Geometry.{IsLayout};
-ghost use Rattle.mc_campaign.specs.inner.TwoRounds.{AreSummaries};
 ghost use Rattle.mc_campaign.specs.inner.View.{FollowsCampaign, HasChildOf, begun_of};
+ghost use Rattle.mc_explore.specs.declared.rounds.Rounds.TheVariants.{Two};
+ghost use Rattle.mc_explore.specs.inner.BootTree.{AreSummaries};
 ghost use Rattle.mc_explore.specs.inner.Exploring.{NoAllocationFailed};
 
-use crate::campaign::{Campaign, Round};
-use crate::rounds::{Both, TwoRounds};
+use crate::campaign::Campaign;
+use crate::rounds::TwoRounds;
+use mc_explore::{Both, Round};
 use mc_flash::Flash;
 use mc_walk::Walk;
 use std::alloc::AllocError;
@@ -16,7 +18,7 @@ use std::alloc::AllocError;
 // The number of the child of a node at that cut, if it has one: the children in the second round stand after those in the first.
 fn child_of(summary: &Both, cut: (u8, u32)) -> Option<u32>
     ensures { (start : PowerOn) (confirms : Bool) (p : RoundNode PowerOn) → IsLayout start.geometry
-        → AreSummaries start confirms p summary.now → HasChildOf confirms p cut result }
+        → AreSummaries start (Two confirms) p summary.now → HasChildOf confirms p cut result }
 {
     match summary.round {
         Round::First => {

@@ -10,10 +10,9 @@ ghost use Rattle.mc_start.specs.Start.{begun};
 ghost use Rattle.mc_campaign.specs.Campaigns.{AreReplayed, BeginsSecond, RefusesCampaign};
 ghost use Rattle.mc_campaign.specs.Rows.{Restarts};
 
-use crate::campaign::{Campaign, Round};
-use crate::rounds::go_between;
-use mc_boot::{Outcome, restart_law};
-use mc_explore::{ReplayError, Schedule, Start, load_for, replay_on};
+use crate::campaign::Campaign;
+use mc_boot::{Outcome, confirm, restart_law};
+use mc_explore::{ReplayError, Round, Schedule, Start, load_for, replay_on};
 use mc_flash::Flash;
 use std::alloc::Global;
 
@@ -50,7 +49,9 @@ fn settle<F: Flash>(confirms: bool, flash: &mut F) -> Result<(), ReplayError>
     ensures refused { IfErr result (λ e. e ≡ ReplayError.Memory) }
     ensures cause { IsErr result → (F.seen flash.old).usage.limits.counted ≡ false }
 {
-    go_between(confirms, flash)?;
+    if confirms {
+        confirm(flash)?;
+    }
     Ok(())
 }
 

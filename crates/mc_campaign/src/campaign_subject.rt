@@ -1,5 +1,8 @@
 //! Campaigns, as what an explorer goes through.
-ghost use Rattle.std.specs.Prelude.{◌≡◌, ◌≤◌, true, length};
+ghost use Rattle.std.specs.Prelude.{◌≡◌, ◌≤◌, ℕ, true, length, IfOk};
+ghost use Rattle.mc_explore.specs.Rounds.{tree_of};
+ghost use Rattle.mc_start.specs.Start.{begun};
+ghost use Rattle.mc_tree.specs.Tree.{IsMember, round_one};
 ghost use Rattle.mc_campaign.specs.Rounds.{cuts_along};
 ghost use Rattle.mc_campaign.specs.inner.View.{begun_of};
 
@@ -11,8 +14,8 @@ use crate::rounds::TwoRounds;
 use crate::row::CampaignRow;
 use mc_boot::{Outcome, restart_law};
 use mc_explore::{
-    AtCuts, Countable, Fields, Labels, Line, OfStart, OneRound, RowsAhead, Schedule, Start,
-    Subject, TreeExplorer, load_walk,
+    AtCuts, CensusOf, Countable, Expectation, Fields, Labels, Line, OfStart, OneRound, Rounds,
+    RowsAhead, Schedule, Start, Subject, TreeExplorer, count_paths, load_walk,
 };
 use mc_flash::Flash;
 use mc_walk::Walk;
@@ -36,6 +39,24 @@ pub(crate) fn campaign_at<F: Flash>(walk: &Walk<F, TwoRounds<'_>>) -> Campaign
         step += 1;
     }
     campaign
+}
+
+// The campaign of the cuts along a path.
+fn campaign_of<F: Flash>(
+    alloc: Global,
+    start: &Start,
+    confirms: bool,
+    path: &Schedule,
+) -> Result<Campaign, AllocError>
+    ensures { IfOk result (λ campaign. (bound : ℕ)
+        → IsMember (tree_of confirms) (round_one (begun start.now)) bound path.now
+        → campaign ≡ cuts_along confirms (begun start.now) path.now) }
+{
+    let cuts = path.cuts();
+    let mut walk: Walk<F, TwoRounds<'_>> = load_walk(alloc, start, cuts.len() as u8, confirms)?;
+    walk.begin()?;
+    walk.follow(cuts)?;
+    Ok(campaign_at(&walk))
 }
 
 impl Subject for TwoRounds<'_> {
@@ -271,29 +292,36 @@ impl<'a> OfStart<'a> for TwoRounds<'a> {
 }
 
 impl Countable for TwoRounds<'_> {
-    ghost use Rattle.std.specs.Prelude.{refl};
-    ghost use Rattle.mc_explore.specs.inner.OneRound.{begins};
-    ghost use Rattle.mc_campaign.specs.facts.Listed.{all_rows, row_at};
+    ghost use Rattle.std.specs.Prelude.{◌≤◌, IfOk};
+    ghost use Rattle.mc_campaign.specs.Rows.{campaigns};
+    ghost use Rattle.mc_explore.specs.{Census.{IsCensusOf}, Right.{judged}};
+    ghost use Rattle.mc_start.specs.Start.{begun};
 
-    fn key_at<F: Flash>(self, alloc: Global, path: &Schedule) -> Result<Campaign, AllocError> {
-        let cuts = path.cuts();
-        let start = self.one_round.start;
-        let mut walk: Walk<F, TwoRounds<'_>> = load_walk(
-            alloc,
-            start,
-            cuts.len() as u8,
-            self.confirms,
-        )?;
-        walk.begin()?;
-        walk.follow(cuts)?;
-        Ok(campaign_at(&walk))
+    fn count<F: Flash>(
+        alloc: Global,
+        start: &Start,
+        bound: u8,
+        confirms: bool,
+        expectation: &Expectation,
+    ) -> Result<CensusOf<Campaign>, AllocError>
+        requires { bound ≤ 16 }
+        ensures { IfOk result (IsCensusOf campaigns (λ row. judged expectation.now
+            (campaigns.ends row)) (begun start.now) confirms bound) }
+    {
+        let rounds = Rounds::Two { confirms };
+        let census = count_paths::<F>(alloc, start, rounds, bound, expectation)?;
+        let first_not_boot = match &census.first_not_boot {
+            Some(path) => Some(campaign_of::<F>(alloc, start, confirms, path)?),
+            None => None,
+        };
+        Ok(CensusOf {
+            schedules: census.schedules,
+            boot: census.boot,
+            none: census.none,
+            panic: census.panic,
+            fault: census.fault,
+            most_operations: census.most_operations,
+            first_not_boot,
+        })
     }
-
-    ghost row_of = { λ t path. row_at (begins t.one_round) t.confirms path };
-
-    ghost row_ends = { λ t path. refl };
-
-    ghost row_key = { λ t path. refl };
-
-    ghost all_rows = { λ t bound. all_rows (begins t.one_round) t.confirms bound };
 }

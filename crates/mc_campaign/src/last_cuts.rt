@@ -6,11 +6,11 @@ ghost use Rattle.mc_campaign.specs.inner.LastCuts.{AreAhead, AreLikePaths, EndSo
 ghost use Rattle.mc_campaign.specs.inner.TwoRounds.{model_of};
 ghost use Rattle.mc_walk.specs.Walks.{IsPath};
 
-use crate::campaign::{Campaign, Round};
+use crate::campaign::Campaign;
 use crate::campaign_subject::campaign_at;
 use crate::rounds::TwoRounds;
 use mc_boot::{Outcome, SharedTail};
-use mc_explore::{AtCuts, RowsAhead, Schedule, tell};
+use mc_explore::{AtCuts, Round, RowsAhead, Schedule, tell};
 use mc_flash::Flash;
 use mc_walk::Walk;
 

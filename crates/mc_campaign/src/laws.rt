@@ -6,7 +6,8 @@ ghost use Rattle.mc_campaign.specs.Page.{Chain, last_campaign, state_past};
 ghost use Rattle.mc_campaign.specs.Rows.{IsRest, after_key, State, ShownRow, moved_to};
 ghost use Rattle.mc_campaign.specs.Campaigns.{IsMember, Precedes};
 ghost use Rattle.mc_boot.specs.Plan.{PowerOn};
-ghost use Rattle.mc_campaign.specs.Rounds.{IsPathOf, rounds};
+ghost use Rattle.mc_campaign.specs.Rounds.{IsPathOf};
+ghost use Rattle.mc_explore.specs.Rounds.{tree_of};
 
 /// The campaigns that can occur are the paths of the tree of two rounds: each of at most so many cuts is that of a path of at
 /// most so many steps, and each such path is that of such a campaign. The order of campaigns is that of their paths.
@@ -14,7 +15,7 @@ pub fn campaigns_are_paths()
     ensures paths { (x : PowerOn) (confirms : Bool) (bound : ℕ) (c : List (ℕ × ℕ))
         → IsMember x confirms bound c ↔ ((path : List ℕ) × IsPathOf x confirms bound path c) }
     ensures all { (x : PowerOn) (confirms : Bool) (bound : ℕ) (path : List ℕ)
-        → tree.IsMember (rounds confirms) (round_one x) bound path
+        → tree.IsMember (tree_of confirms) (round_one x) bound path
         → (c : List (ℕ × ℕ)) × IsPathOf x confirms bound path c }
     ensures order { (x : PowerOn) (confirms : Bool) (bound : ℕ) (path other : List ℕ)
         (c d : List (ℕ × ℕ)) → IsPathOf x confirms bound path c → IsPathOf x confirms bound other d

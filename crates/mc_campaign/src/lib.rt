@@ -16,12 +16,13 @@ mod row;
 mod row_text;
 mod two_rounds;
 
-pub use campaign::{Campaign, CampaignError, Round};
+pub use campaign::{Campaign, CampaignError};
 pub use campaign_replays::{replay_campaign, start_of_second};
 pub use campaign_subject::CampaignExplorer;
 pub use cursor::CampaignCursor;
 pub use last_cuts::{Ahead, Ends};
 pub use laws::{campaign_pages_join_up, campaigns_are_paths, one_list_of_campaigns};
-pub use pages::{write_campaign_page, write_campaign_page_until};
-pub use rounds::{Both, ChildBoot, TwoRounds};
+pub use mc_explore::Round;
+pub use pages::write_campaign_page;
+pub use rounds::TwoRounds;
 pub use row::CampaignRow;

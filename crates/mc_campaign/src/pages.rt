@@ -2,47 +2,12 @@
 ghost use Rattle.std.specs.Prelude.{◌≡◌, ◌+◌, ◌*◌, ◌≤◌, ◌⊎◌, IfErr, OnOk, OnErr, IsErrOf};
 ghost use Rattle.mc_explore.specs.Subject.{Explores};
 ghost use Rattle.mc_campaign.specs.Rows.{most_for_row};
-ghost use Rattle.mc_campaign.specs.Page.{PageBegan, PageIsOut, ShownBegan, ShownIsOut};
+ghost use Rattle.mc_campaign.specs.Page.{PageBegan, PageIsOut};
 
-use crate::campaign::Campaign;
 use crate::campaign_subject::CampaignExplorer;
 use mc_explore::{ExploreError, write_rows};
 use mc_flash::Flash;
 use std::io::Write;
-
-/// Writes a page of the next rows that come before that campaign, if one is given: a proper prefix of it comes before it, else
-/// the first cut that differs decides. It has at most so many rows, a line each; then where to go on, or `end` where there are
-/// fewer. It takes no memory but through the flash.
-///
-/// After a full page the explorer is past its rows. After one that says `end` it is also past the next row, if there is one: that
-/// one does not come before the campaign, and to go on with it resume after the page's last row.
-///
-/// # Errors
-///
-/// `Write`, `Memory`, `Failed`: a prefix of that page is out, and from then on the explorer returns `Failed`.
-pub fn write_campaign_page_until<F: Flash + Drop, W: Write>(
-    explorer: &mut CampaignExplorer<'_, F>,
-    until: Option<Campaign>,
-    limit: u32,
-    writer: &mut W,
-) -> Result<(), ExploreError>
-    requires { 1 ≤ limit }
-    // The page of the rows to come before the campaign is out, and what is to come afterwards are the rows that were not taken
-    // for it.
-    ensures page { OnOk result (ShownIsOut until explorer.old.state explorer.new.state limit
-        (W.contents writer.old) (W.contents writer.new)) }
-    ensures began { OnErr result (ShownBegan until explorer.old.state limit
-        (W.contents writer.old) (W.contents writer.new)) }
-    // Each row takes as much as one by itself.
-    ensures applied { OnOk result (explorer.new.usage.applied ≤ explorer.old.usage.applied + limit
-        * most_for_row explorer.old.state.start.rules explorer.old.state.start.geometry) }
-    ensures explores { Explores F.counted explorer.old result explorer.new }
-    ensures unwritten { IsErrOf result ExploreError.Failed → writer.new ≡ writer.old }
-    ensures err { IfErr result (λ e. (e ≡ ExploreError.Memory) ⊎ (e ≡ ExploreError.Failed)
-        ⊎ (e ≡ ExploreError.Write)) }
-{
-    write_rows(explorer, &until, limit, writer)
-}
 
 /// Writes the next rows, at most so many, a line each; then where to go on, or `end` where there were fewer. It takes no
 /// memory but through the flash.
@@ -69,5 +34,5 @@ pub fn write_campaign_page<F: Flash + Drop, W: Write>(
     ensures err { IfErr result (λ e. (e ≡ ExploreError.Memory) ⊎ (e ≡ ExploreError.Failed)
         ⊎ (e ≡ ExploreError.Write)) }
 {
-    write_campaign_page_until(explorer, None, limit, writer)
+    write_rows(explorer, &None, limit, writer)
 }

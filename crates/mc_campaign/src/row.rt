@@ -1,7 +1,7 @@
 //! A campaign with its outcomes.
 ghost use Rattle.std.specs.Prelude.{◌≡◌};
 ghost use Rattle.mc_boot.specs.Outcome.{shown};
-ghost use Rattle.mc_campaign.specs.Rows.{end_by, end_of, shown_row};
+ghost use Rattle.mc_campaign.specs.Rows.{end_of, shown_row};
 
 use crate::Campaign;
 use mc_boot::{BootResult, Outcome};
@@ -19,17 +19,13 @@ impl CampaignRow {
     pub fn end(&self) -> Outcome
         ensures { shown result ≡ end_of (shown_row self.now) }
     {
-        end_by(&self.first, &self.second)
+        let result = match self.first.result {
+            BootResult::Boot => self.second.result,
+            failed => failed,
+        };
+        Outcome {
+            result,
+            ..self.second
+        }
     }
-}
-
-/// How two rounds end: as the second does; but where the first does not end in a boot, with the result of the first.
-pub(crate) fn end_by(first: &Outcome, second: &Outcome) -> Outcome
-    ensures { shown result ≡ end_by (shown first.now) (shown second.now) }
-{
-    let result = match first.result {
-        BootResult::Boot => second.result,
-        failed => failed,
-    };
-    Outcome { result, ..*second }
 }

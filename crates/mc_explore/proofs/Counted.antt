@@ -5,10 +5,10 @@ use Rattle.std.specs.List.{AllByRecursion}
 use Rattle.mc_boot.specs.{Outcome.{Report}, declared.outcome.BootResult.{BootResult}}
 use Rattle.mc_explore.proofs.{JudgedRows.{none_right, rights_more}, PageRows.{AreSoFar, cursor_is, none_so_far, one_more, page_full, page_short, page_with}}
 use Rattle.mc_explore.proofs.PageText.{last_on}
-use Rattle.mc_explore.specs.{Pages.{FindsBefore, IsLawful}, Rows.{schedules}}
+use Rattle.mc_explore.specs.{Pages.{FindsBefore, IsLawful}, Rows.{schedules, subject}}
 use Rattle.mc_explore.specs.Rows as rows_of_schedules
 use Rattle.mc_explore.specs.Subject.{State, Subject, rows_of}
-use Rattle.mc_explore.specs.Survey.{IsWithin, Surveys, SurveysUntil, Tally, ending_with, is_boot, no_tally, one_row_more, tally_by_now, tally_of}
+use Rattle.mc_explore.specs.Survey.{IsWithin, Surveys, Tally, ending_with, is_boot, no_tally, one_row_more, tally_by_now, tally_of}
 use Rattle.mc_explore.specs.{Right.{SurveysRows, no_rights, one_judged_more, rights_by}, declared.expectation.Expectation.{Expectation}}
 use Rattle.mc_explore.specs.{declared.rights.RightsOf.{RightsOf}, declared.tally.TallyOf.{TallyOf}, facts.Whole.{whole_taken}}
 use Rattle.mc_tree.specs.Tree.{After, last_key}
@@ -88,8 +88,9 @@ module _ {C K R U : Type 0} {x : Subject C K R U} {laws : IsLawful (rows_of x)} 
       )
 
 -- A survey of all rows to come.
-pub surveyed_whole : (old new : rows_of_schedules.State) (limit : ℕ) (tally : Tally) → SurveysUntil None old new limit tally → Surveys old new limit tally
-surveyed_whole old new limit tally (page, taken, is) =
+pub surveyed_whole : (e : Expectation) (old new : rows_of_schedules.State) (limit : ℕ) (tally : Tally) (rights : RightsOf (List ℕ)) → SurveysRows subject e None old new limit tally rights
+    → Surveys old new limit tally
+surveyed_whole e old new limit tally rights (page, taken, is, _) =
     let w = whole_taken schedules old new limit page taken in
     record { rows = w.rows; rest = w.rest; tally_is = is ∙ ap tally_of w.page_is; left = w.left; past = w.past }
 

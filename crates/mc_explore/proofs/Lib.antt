@@ -1,4 +1,8 @@
 mod Beginning
+pub mod BootTails
+pub mod BootWays
+pub mod BootSteps
+mod BootRows
 mod Bytes
 mod Continued
 mod Onwards

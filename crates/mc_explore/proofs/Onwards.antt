@@ -117,7 +117,7 @@ module _ (start : PowerOn) where
   cut_here x i b f summary at early t = grind arith
 
   -- A child whose boot goes on with that of its parent.
-  pub joined_here : (x : PowerOn) (i : ℕ) (b : Boot) (child parent : Summary) (f : Seen) (tail : SharedTail) → IsAt (one_round start) x i b f → i < length (ops_of x) → IsSummary x parent
+  joined_here : (x : PowerOn) (i : ℕ) (b : Boot) (child parent : Summary) (f : Seen) (tail : SharedTail) → IsAt (one_round start) x i b f → i < length (ops_of x) → IsSummary x parent
       → IsSummary (again x (at_cut x i)) child
       → ((y : Rules) (v : Content) (whole : Report) → IsCut (power_on y f.geometry v) f.content b whole → progress child.boot ≡ begun y (plan (powered y f))
       → IsSharedTail (power_on y f.geometry v) f.content tail)
@@ -129,27 +129,19 @@ module _ (start : PowerOn) where
       let here : P x.geometry f.content = subst (λ y. P y f.content) (layout_here x i b b f f at early) (joins x.rules x.content) in
       subst (P x.geometry) at.content_is here (shown parent.outcome) (cut_here x i b f parent at early summary) child_summary.boot_is
 
-  -- And so do its children among those of the parent.
-  pub joins_like : (b : Boot) (child parent : Summary) (f : Seen) (found : Option SharedTail)
-      → ((y : Rules) (v : Content) (whole : Report) → IsCut (power_on y f.geometry v) f.content b whole → progress child.boot ≡ begun y (plan (powered y f))
-      → IfSome found (IsSharedTail (power_on y f.geometry v) f.content))
-      → IfSome found (λ tail. (path : List ℕ) (i : ℕ) → IsChildOf (one_round start) (boot_at start path) i b parent child f → AreLike (one_round start) (AreSame start) path (path ++ i ∷ []) tail)
-  joins_like b child parent f None joins = tt
-  joins_like b child parent f (Some tail) joins = λ path i here.
-      shared_like start path i tail (joined_here (boot_at start path) i b child parent f tail here.at_is here.some here.parent_is.1 here.child_is.1 joins)
-
-  -- Where its flashes lie among those of the parent, and both leave the same.
   pub goes_on_here : (b : Boot) (child parent : Summary) (f : Seen) (found : Option SharedTail)
       → ((y : Rules) (v : Content) (whole : Report) → IsCut (power_on y f.geometry v) f.content b whole → progress child.boot ≡ begun y (plan (powered y f))
       → IfSome found (IsSharedTail (power_on y f.geometry v) f.content))
-      → ((x : PowerOn) (u : Content) → IsCut x u b (shown parent.outcome) → IsBootOf x.geometry child.boot → progress child.boot ≡ begun x.rules (plan (again x u))
-      → left_by (again x u) ≡ left_by x)
       → IfSome found (λ tail. (x : PowerOn) (i : ℕ) → IsChildOf (one_round start) x i b parent child f → GoesOnIn x i tail)
-  goes_on_here b child parent f None joins lefts = tt
-  goes_on_here b child parent f (Some tail) joins lefts = λ x i here. record {
-    shared = joined_here x i b child parent f tail here.at_is here.some here.parent_is.1 here.child_is.1 joins;
-    left = lefts x (at_cut x i) (cut_here x i b f parent here.at_is here.some here.parent_is.1) here.child_is.1.layout_is here.child_is.1.boot_is;
-  }
+  goes_on_here b child parent f None joins = tt
+  goes_on_here b child parent f (Some tail) joins = λ x i here. joined_here x i b child parent f tail here.at_is here.some here.parent_is.1 here.child_is.1 joins
+
+  -- And so do its children among those of the parent.
+  pub joins_like : (b : Boot) (child parent : Summary) (f : Seen) (found : Option SharedTail)
+      → IfSome found (λ tail. (x : PowerOn) (i : ℕ) → IsChildOf (one_round start) x i b parent child f → GoesOnIn x i tail)
+      → IfSome found (λ tail. (path : List ℕ) (i : ℕ) → IsChildOf (one_round start) (boot_at start path) i b parent child f → AreLike (one_round start) (AreSame start) path (path ++ i ∷ []) tail)
+  joins_like b child parent f None goes = tt
+  joins_like b child parent f (Some tail) goes = λ path i here. shared_like start path i tail (goes (boot_at start path) i here)
 
   -- After a cut so many operations later the same boot begins.
   pub twin_at : (x : PowerOn) (i j : ℕ) (b : Boot) (child : Summary) → (one_round start).IsOn x i b → (one_round start).IsSummary (boots.child x i) child → HasTwin x (at_cut x i) (b.done + j)

@@ -3,6 +3,7 @@ pub mod Explores
 pub mod Subject
 pub mod Schedules
 pub mod Boots
+pub mod Rounds
 pub mod Rows
 pub mod Page
 pub mod Survey

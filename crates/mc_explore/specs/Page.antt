@@ -40,16 +40,6 @@ PageBegan = pages.PageBegan schedules
 abbrev pub Shown : Option (List ℕ) → State → Type 0
 Shown = pages.Shown schedules
 
--- The rows of that page are taken; it is out; or a beginning of it is.
-abbrev pub TakesPage : Option (List ℕ) → State → State → ℕ → Page → Type 0
-TakesPage = pages.TakesPage schedules
-
-abbrev pub ShownIsOut : Option (List ℕ) → State → State → ℕ → Option (List ℕ) → Option (List ℕ) → Type 0
-ShownIsOut = pages.ShownIsOut schedules
-
-abbrev pub ShownBegan : Option (List ℕ) → State → ℕ → Option (List ℕ) → Option (List ℕ) → Type 0
-ShownBegan = pages.ShownBegan schedules
-
 -- Pages that are continued from their cursors.
 
 -- The schedule of the last row, which a full page's cursor names.

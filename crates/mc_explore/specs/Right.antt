@@ -4,7 +4,7 @@ use Rattle.std.specs.Prelude.{All, Bool, List, None, Option, Some, codes, count_
 use Rattle.std.specs.Str.{bytes_eq}
 use Rattle.hex.specs.Hex.{IsBytes, encode_lower}
 use Rattle.mc_boot.specs.{Outcome.{Report}, Plan.{PowerOn}}
-use Rattle.mc_explore.specs.{Census.{count_text, cut_number, key_or_none}, Rows.{State, subject}, Subject.{Subject, rows_of}, Survey.{Tally, is_boot, tally_by}}
+use Rattle.mc_explore.specs.{Census.{count_text, cut_number, key_or_none}, Subject.{Subject, rows_of}, Survey.{is_boot, tally_by}}
 use Rattle.mc_explore.specs.{declared.expectation.Expectation.{Expectation}, declared.expectation.Wanted.{Wanted}, declared.rights.RightsOf.{RightsOf}}
 use Rattle.mc_explore.specs.declared.tally.TallyOf.{TallyOf}
 use Rattle.mc_image.specs.{Valid.{Identity}, VersionText.{Names}, declared.version.Version.{Version}}
@@ -78,14 +78,9 @@ pub record AreRights {C K R U : Type 0} (x : Subject C K R U) (e : Expectation) 
   pub rest : pages.IsRest (rows_of x) (states.at_start start choice bound) rows
   pub rights_are : rights ≡ rights_by x.ends x.key e rows
 
--- Rows of schedules.
-
+-- How many schedules are right, and the first that is not.
 abbrev pub Rights : Type 0
 Rights = RightsOf (List ℕ)
-
--- The page of the rows to come before a schedule has that tally, and so many of its rows are right; and its rows are taken.
-abbrev pub SurveysRight : Expectation → Option (List ℕ) → State → State → ℕ → Tally → Rights → Type 0
-SurveysRight = SurveysRows subject
 
 -- Two lines.
 abbrev pub rights_text : {C K R U : Type 0} → Subject C K R U → RightsOf K → List ℕ

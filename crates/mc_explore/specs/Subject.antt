@@ -1,7 +1,7 @@
 -- What is explored, of whatever kind: which keys can occur from a start, where an explorer has come to, its rows, and where a cursor serves.
-use Rattle.std.specs.Prelude.{Bool, Err, List, None, Ok, Option, Result, Some, false, refl, ℕ, ◌≡◌, ◌≢◌, ◌⊎◌}
+use Rattle.std.specs.Prelude.{Bool, Err, IsErrOf, List, None, Ok, OnErr, Option, Result, Some, false, refl, ℕ, ◌≡◌, ◌≢◌, ◌⊎◌}
 use Rattle.mc_boot.specs.{Outcome.{Report}, Plan.{PowerOn}}
-use Rattle.mc_explore.specs.{Explores.{ExploresOn}, Pages.{IsLawful, IsRest, Listing}, declared.error.ExploreError.{ExploreError}}
+use Rattle.mc_explore.specs.{Explores.{RanOut}, Pages.{IsLawful, IsRest, Listing}, declared.error.ExploreError.{ExploreError}}
 use Rattle.mc_explore.specs.declared.subject.Fields.{Fields}
 use Rattle.mc_flash.specs.{Flash.{Content}, Geometry.{Geometry}, Usage.{Usage}}
 use Rattle.mc_start.specs.Start.{start_digest}
@@ -101,9 +101,21 @@ module _ {C K R U : Type 0} (x : Subject C K R U) where
   row_cost state (Some row) = x.most_for_row state.start.rules state.start.geometry
   row_cost state None = 0
 
--- It goes on, and after an error it has failed.
-abbrev pub Explores : {C K A : Type 0} → Bool → Explored C K → Result A ExploreError → Explored C K → Type 0
-Explores = ExploresOn (λ explorer. explorer.usage) (λ explorer. explorer.state.position ≡ Lost)
+-- What a call that goes through rows leaves of an explorer, whatever it answers.
+
+-- The limits of the flash never change. An allocation failed only where the flash does not count, and was refused some. An
+-- explorer that has failed says so and stays as it is, and no other says so.
+pub record LeavesExplorer {C K A : Type 0} (counted : Bool) (old : Explored C K) (result : Result A ExploreError) (new : Explored C K) : Type 0 where
+  pub limits : new.usage.limits ≡ old.usage.limits
+  pub cause : IsErrOf result errors.Memory → RanOut counted new.usage.failed
+  pub stays_lost : old.state.position ≡ Lost → IsErrOf result errors.Failed
+  pub not_lost : IsErrOf result errors.Failed → old.state.position ≡ Lost
+  pub still : IsErrOf result errors.Failed → new ≡ old
+
+-- Besides, after an error it has failed.
+pub record Explores {C K A : Type 0} (counted : Bool) (old : Explored C K) (result : Result A ExploreError) (new : Explored C K) : Type 0 where
+  pub goes : LeavesExplorer counted old result new
+  pub lost : OnErr result (new.state.position ≡ Lost)
 
 -- The rows of a subject, as they are listed.
 

@@ -2,7 +2,7 @@
 use Rattle.std.specs.Prelude.{All, Bool, List, None, Option, Some, [], codes, count_by, decimal, drop, false, fold, length, map, max, true, ℕ, ◌++◌, ◌+◌, ◌<◌, ◌∷◌, ◌≡◌, ◌≤◌, ◌⊎◌}
 use Rattle.std.specs.Str.Iter.{LacksByte}
 use Rattle.mc_boot.specs.{Outcome.{Report}, declared.outcome.BootResult.{BootResult}}
-use Rattle.mc_explore.specs.{Page.{Page, TakesPage, page_at, row_line, state_past}, Rows.{IsRest, State, ShownRow, moved_to, report_of, row_text}}
+use Rattle.mc_explore.specs.{Page.{Page, page_at, row_line, state_past}, Rows.{IsRest, State, ShownRow, moved_to, report_of, row_text}}
 use Rattle.mc_explore.specs.{Subject.{Subject, rows_of}, declared.tally.TallyOf.{TallyOf}}
 use Rattle.mc_start.specs.{Start.{IsSchedule, schedule_text}, declared.cursor.Cursor.{Cursor}}
 use Rattle.mc_explore.specs.Pages as pages
@@ -107,10 +107,6 @@ counts_text t =
 -- And the last line of the page.
 abbrev pub tally_text : {C K R U : Type 0} → Subject C K R U → TallyOf U → List ℕ
 tally_text x t = counts_text t ++ pages.last_line (rows_of x) t.next
-
--- That is the tally of the page of the rows to come before the schedule, and its rows are taken.
-abbrev pub SurveysUntil : Option (List ℕ) → State → State → ℕ → Tally → Type 0
-SurveysUntil until old new limit tally = (page : Page) × TakesPage until old new limit page × (tally ≡ tally_of page)
 
 -- That is the tally of the page of the rows to come, and the explorer is past its rows.
 pub record Surveys (old new : State) (limit : ℕ) (tally : Tally) : Type 0 where

@@ -11,3 +11,4 @@ pub mod Whole
 pub mod Tails
 pub mod Totals
 pub mod Children
+pub mod BootRoom

@@ -1,6 +1,8 @@
 -- Views, invariants and states of the code's own. No contract of the headline and no law needs them to be believed; calls that the crates
 -- above make of this one name some of them.
 pub mod OneRound
+pub mod BootTree
+pub mod BootEnds
 pub mod LastCuts
 pub mod Totals
 pub mod Runs

@@ -3,8 +3,12 @@
 
 mod ahead;
 mod at_cuts;
+mod boot_ends;
+mod boot_tree;
 mod census;
 mod census_text;
+mod children;
+mod column;
 mod countable;
 mod error;
 mod expectation;
@@ -17,13 +21,13 @@ mod output;
 mod pages;
 mod replays;
 mod rights;
+mod rounds;
 mod row;
 mod row_line;
 mod row_text;
 mod rows;
 mod run;
 mod schedules;
-mod source;
 mod start_census;
 mod subject;
 mod table;
@@ -36,7 +40,8 @@ pub use ahead::RowsAhead;
 pub use at_cuts::{AtCuts, Joined};
 pub use census::{Census, CensusOf, each_boots};
 pub use census_text::{census_line, write_census};
-pub use countable::{Countable, Ending};
+pub use children::go_to_child;
+pub use countable::Countable;
 pub use error::ExploreError;
 pub use expectation::{Expectation, Wanted};
 pub use explorer::Explorer;
@@ -49,18 +54,16 @@ pub use mc_start::{
     StartError, StartField, next_field,
 };
 pub use one_round::{OneRound, Summary};
-pub use pages::{write_page, write_page_until, write_rows};
+pub use pages::{write_page, write_rows};
 pub use replays::{ReplayError, flash_at_cut, replay, replay_on};
 pub use rights::{Rights, RightsOf, all_right, rights_line, write_rights};
+pub use rounds::{BootTree, Both, ChildBoot, Round, Rounds};
 pub use row::Row;
 pub use row_text::{put_outcome, put_slots};
 pub use run::Run;
-pub use source::RowSource;
-pub use start_census::{go_to_child, take_census, take_rights};
+pub use start_census::{count_paths, take_census, take_rights};
 pub use subject::{Fields, OfStart, Subject};
-pub use tally::{
-    Tally, TallyOf, all_boot, survey, survey_right, survey_rows, survey_until, write_tally,
-};
+pub use tally::{Tally, TallyOf, all_boot, survey, survey_rows, write_tally};
 pub use torn::last_row;
 pub use tree_explorer::TreeExplorer;
 pub use tree_loading::{load_for, load_walk};

@@ -21,7 +21,7 @@ pub struct OneRound<'a> {
 }
 
 impl<'a> OneRound<'a> {
-    ghost use Rattle.std.specs.Prelude.{◌≡◌, ℕ, Some, IfOk, IfErr, IfSome, OnOk};
+    ghost use Rattle.std.specs.Prelude.{ℕ, Some, IfOk, IfErr, IfSome, OnOk};
     ghost use Rattle.mc_boot.specs.Boot.{IsCold};
     ghost use Rattle.mc_boot.specs.Plan.{PowerOn, again};
     ghost use Rattle.mc_flash.specs.Usage.{Keeps, Allows, HasRoom, Spends, Stays};
@@ -101,16 +101,15 @@ impl<'a> OneRound<'a> {
         &self,
         flash: &F,
         at: &Boot,
-        parent: &Summary,
+        _parent: &Summary,
         child: &Summary,
     ) -> Option<SharedTail>
-        requires { HasChild (one_round (begins self.now)) at.now parent.now child.now (F.seen
+        requires { HasChild (one_round (begins self.now)) at.now _parent.now child.now (F.seen
             flash.now) }
         ensures { IfSome result (λ tail. (x : PowerOn) (i : ℕ)
-            → IsChildOf (one_round (begins self.now)) x i at.now parent.now child.now
+            → IsChildOf (one_round (begins self.now)) x i at.now _parent.now child.now
             (F.seen flash.now) → GoesOnIn x i tail) }
     {
-        outcome_after(at, &parent.outcome, &child.boot)?;
         SharedTail::find(flash, at, &child.boot)
     }
 

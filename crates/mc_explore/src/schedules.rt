@@ -1,11 +1,15 @@
 //! Schedules, as what an explorer goes through.
 use crate::ahead::RowsAhead;
 use crate::at_cuts::AtCuts;
-use crate::countable::{Countable, Ending};
+use crate::census::Census;
+use crate::countable::Countable;
+use crate::expectation::Expectation;
 use crate::joining::{Joining, is_same_outcome, tell};
 use crate::labels::Labels;
 use crate::one_round::{OneRound, Summary};
+use crate::rounds::Rounds;
 use crate::row::Row;
+use crate::start_census::count_paths;
 use crate::subject::{Fields, OfStart, Subject};
 use mc_boot::{Boot, Outcome, SharedTail, restart_law};
 use mc_flash::Flash;
@@ -244,10 +248,10 @@ impl Joining for OneRound<'_> {
         self,
         flash: &F,
         at: &Boot,
-        _parent: &Summary,
+        parent: &Summary,
         child: &Summary,
     ) -> Option<SharedTail> {
-        SharedTail::find(flash, at, &child.boot)
+        self.tail_of(flash, at, parent, child)
     }
 
     fn is_same(one: &Outcome, other: &Outcome) -> bool
@@ -265,43 +269,23 @@ impl<'a> OfStart<'a> for OneRound<'a> {
     }
 }
 
-impl Ending for OneRound<'_> {
-    ghost use Rattle.mc_explore.specs.facts.Listed.{report_after, same_end};
-    ghost use Rattle.mc_explore.specs.inner.OneRound.{begins};
-
-    ghost report_of = { λ o path. report_after (begins o) path };
-
-    ghost same_end = { λ o. same_end (begins o) };
-
-    fn ended(self, summary: &Summary) -> Outcome {
-        summary.outcome
-    }
-
-    fn shared_tail<F: Flash>(
-        self,
-        flash: &F,
-        at: &Boot,
-        parent: &Summary,
-        child: &Summary,
-    ) -> Option<SharedTail> {
-        self.tail_of(flash, at, parent, child)
-    }
-}
-
 impl Countable for OneRound<'_> {
-    ghost use Rattle.std.specs.Prelude.{refl};
-    ghost use Rattle.mc_explore.specs.facts.Listed.{all_rows, row_at};
-    ghost use Rattle.mc_explore.specs.inner.OneRound.{begins};
+    ghost use Rattle.std.specs.Prelude.{◌≤◌, IfOk};
+    ghost use Rattle.mc_explore.specs.{Census.{IsCensusOf}, Right.{judged}, Rows.{subject}};
+    ghost use Rattle.mc_start.specs.Start.{begun};
 
-    fn key_at<F: Flash>(self, _alloc: Global, path: &Schedule) -> Result<Schedule, AllocError> {
-        Ok(*path)
+    fn count<F: Flash>(
+        alloc: Global,
+        start: &Start,
+        bound: u8,
+        _choice: (),
+        expectation: &Expectation,
+    ) -> Result<Census, AllocError>
+        requires { bound ≤ 16 }
+        ensures { IfOk result (IsCensusOf subject (λ row. judged expectation.now
+            (subject.ends row)) (begun start.now) tt bound) }
+    {
+        let census = count_paths::<F>(alloc, start, Rounds::One, bound, expectation)?;
+        Ok(census)
     }
-
-    ghost row_of = { λ o path. row_at (begins o) path };
-
-    ghost row_ends = { λ o path. refl };
-
-    ghost row_key = { λ o path. refl };
-
-    ghost all_rows = { λ o bound. all_rows (begins o) bound };
 }

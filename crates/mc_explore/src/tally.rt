@@ -5,21 +5,20 @@ ghost use Rattle.mc_boot.specs.Outcome.{shown};
 ghost use Rattle.mc_output.specs.Text.{AppendsPrefix};
 ghost use Rattle.mc_explore.specs.Rows.{most_for_row};
 ghost use Rattle.mc_explore.specs.Pages.{Page};
-ghost use Rattle.mc_explore.specs.Survey.{AllEndInBoot, IsWithin, Surveys, SurveysUntil, counts_text, no_tally, one_row_more, tally_by, tally_text};
-ghost use Rattle.mc_explore.specs.Right.{SurveysRight, SurveysRows};
+ghost use Rattle.mc_explore.specs.Survey.{AllEndInBoot, IsWithin, Surveys, counts_text, no_tally, one_row_more, tally_by, tally_text};
+ghost use Rattle.mc_explore.specs.Right.{SurveysRows};
 ghost use Rattle.mc_explore.specs.Subject.{Explores};
 
 use crate::error::ExploreError;
 use crate::expectation::Expectation;
 use crate::explorer::Explorer;
-use crate::rights::{Rights, RightsOf};
-use crate::source::RowSource;
+use crate::rights::RightsOf;
 use crate::subject::Subject;
 use crate::tree_explorer::TreeExplorer;
 use mc_boot::{BootResult, Outcome};
 use mc_flash::Flash;
 use mc_output::{Line, MOST_LINE, WriteFailed, write_line};
-use mc_start::{Cursor, Schedule};
+use mc_start::Cursor;
 use std::io::Write;
 
 /// How many rows a page would have, how many of them end with each result, and where it would go on.
@@ -182,55 +181,6 @@ pub fn survey_rows<F: Flash + Drop, X: Subject>(
     Ok((tally, rights))
 }
 
-/// Counts the next rows that come before that schedule, if one is given, at most so many, and how many of them are right: the
-/// rows of the page that `write_page_until` would write. The explorer is where that page would have left it. It takes no memory
-/// but through the flash.
-///
-/// # Errors
-///
-/// `Memory`, `Failed`: those of `next_row`.
-pub fn survey_right<F: Flash + Drop>(
-    explorer: &mut Explorer<'_, F>,
-    until: Option<Schedule>,
-    limit: u32,
-    expectation: &Expectation,
-) -> Result<(Tally, Rights), ExploreError>
-    requires { 1 ≤ limit }
-    ensures surveys { IfOk result (λ counted. SurveysRight expectation.now until explorer.old.state
-        explorer.new.state limit counted.0 counted.1) }
-    // Each row takes as much as one by itself.
-    ensures applied { OnOk result (explorer.new.usage.applied ≤ explorer.old.usage.applied + limit
-        * most_for_row explorer.old.state.start.rules explorer.old.state.start.geometry) }
-    ensures explores { Explores F.counted explorer.old result explorer.new }
-    ensures err { IfErr result (λ e. (e ≡ ExploreError.Memory) ⊎ (e ≡ ExploreError.Failed)) }
-{
-    survey_rows(&mut explorer.inner, &until, limit, expectation)
-}
-
-/// Counts the next rows that come before that schedule, if one is given, at most so many: the rows of the page that
-/// `write_page_until` would write. The explorer is where that page would have left it. It takes no memory but through the
-/// flash.
-///
-/// # Errors
-///
-/// `Memory`, `Failed`: those of `next_row`.
-pub fn survey_until<F: Flash + Drop>(
-    explorer: &mut Explorer<'_, F>,
-    until: Option<Schedule>,
-    limit: u32,
-) -> Result<Tally, ExploreError>
-    requires { 1 ≤ limit }
-    ensures surveys { IfOk result (SurveysUntil until explorer.old.state explorer.new.state limit) }
-    // Each row takes as much as one by itself.
-    ensures applied { OnOk result (explorer.new.usage.applied ≤ explorer.old.usage.applied + limit
-        * most_for_row explorer.old.state.start.rules explorer.old.state.start.geometry) }
-    ensures explores { Explores F.counted explorer.old result explorer.new }
-    ensures err { IfErr result (λ e. (e ≡ ExploreError.Memory) ⊎ (e ≡ ExploreError.Failed)) }
-{
-    let (tally, _rights) = survey_right(explorer, until, limit, &Expectation::any())?;
-    Ok(tally)
-}
-
 /// Counts the next rows, at most so many: the rows of the page that `write_page` would write. The explorer is where that page
 /// would have left it. It takes no memory but through the flash.
 ///
@@ -250,5 +200,7 @@ pub fn survey<F: Flash + Drop>(
     ensures explores { Explores F.counted explorer.old result explorer.new }
     ensures err { IfErr result (λ e. (e ≡ ExploreError.Memory) ⊎ (e ≡ ExploreError.Failed)) }
 {
-    survey_until(explorer, None, limit)
+    let any = Expectation::any();
+    let (tally, _rights) = survey_rows(&mut explorer.inner, &None, limit, &any)?;
+    Ok(tally)
 }

@@ -1,17 +1,18 @@
 //! Goes through the rows of a kind of tree, one after another.
-ghost use Rattle.std.specs.Prelude.{◌≡◌, ◌↔◌, ◌+◌, ◌≤◌, true, length, option_map, IfOk, IfErr, ◌⊎◌};
-ghost use Rattle.mc_explore.specs.Pages.{IsBefore};
+ghost use Rattle.std.specs.Prelude.{◌≡◌, ◌↔◌, ◌+◌, ◌≤◌, ◌⊎◌, Some, true, length, option_map, IfErr, IfOk, IsErrOf, OnErr, OnOk};
+ghost use Rattle.std.specs.Io.KnownBytes.{Appends};
+ghost use Rattle.mc_output.specs.Text.{AppendsPrefix};
+ghost use Rattle.mc_explore.specs.Pages.{FindsBefore, IsBefore, RowBegan, WritesRow, last_line};
 ghost use Rattle.mc_flash.specs.Usage.{limits_for};
 ghost use Rattle.mc_start.specs.Start.{begun};
-ghost use Rattle.mc_tree.specs.Tree.{After};
-ghost use Rattle.mc_explore.specs.Subject.{Resumes, Explores, Finds, GoesOnBeyond, Restarts, at_start, row_cost, rows_of, state_after};
+ghost use Rattle.mc_tree.specs.Tree.{After, Lost};
+ghost use Rattle.mc_explore.specs.Subject.{Resumes, Explores, Finds, GoesOnBeyond, LeavesExplorer, Restarts, at_start, row_cost, rows_of, state_after};
 
 use crate::error::ExploreError;
 use crate::labels::Labels;
 use crate::output::write_text;
 use crate::row_line::RowLine;
 use crate::rows::Rows;
-use crate::source::RowSource;
 use crate::subject::{Fields, OfStart, Subject};
 use crate::tree_loading::{check_cursor, load_walk};
 use mc_flash::Flash;
@@ -234,43 +235,21 @@ fn comes_before<X: Subject>(row: &X::Row, until: &Option<X::Key>) -> bool
     }
 }
 
-impl<'a, F: Flash + Drop, X: Subject> RowSource for TreeExplorer<'a, F, X> {
-    ghost use Rattle.std.specs.Prelude.{refl};
-    ghost use Rattle.mc_explore.specs.Subject.{are_lawful};
-    ghost use Rattle.mc_explore.specs.Subject as states;
-
-    ghost State = { states.State X.Choice X.Key };
-
-    ghost Key = { X.Key };
-
-    ghost Shown = { X.Shown };
-
-    ghost Cursor = { X.Cursor };
-
-    type Row = X::Row;
-
-    type Until = Option<X::Key>;
-
-    ghost listing = { rows_of X.subject };
-
-    ghost laws = { are_lawful X.subject X.order X.some_rest };
-
-    ghost state = { λ explorer. explorer.state };
-
-    ghost usage = { λ explorer. explorer.usage };
-
-    ghost counted = { F.counted };
-
-    ghost shown = { X.shown };
-
-    ghost until_of = { λ until. until };
-
-    ghost most_for_row = { λ s. X.subject.most_for_row s.start.rules s.start.geometry };
-
-    ghost cost_stays = { λ s k. refl };
-
+impl<'a, F: Flash + Drop, X: Subject> TreeExplorer<'a, F, X> {
+    /// The next row, where it comes before that key, if one is given; none where it does not, or where there is no further row.
+    ///
+    /// # Errors
+    ///
+    /// `Memory` where the flash was refused memory; from then on always `Failed`.
     #[inline(always)]
-    fn next_before(&mut self, until: &Option<X::Key>) -> Result<Option<X::Row>, ExploreError> {
+    pub fn next_before(&mut self, until: &Option<X::Key>) -> Result<Option<X::Row>, ExploreError>
+        ensures found { IfOk result (λ found. FindsBefore (rows_of X.subject) until.now
+            self.old.state (option_map X.shown found) self.new.state) }
+        ensures applied { let s = self.old.state.start in IfOk result (λ _. self.new.usage.applied
+            ≤ self.old.usage.applied + X.subject.most_for_row s.rules s.geometry) }
+        ensures explores { Explores F.counted self.old result self.new }
+        ensures err { IfErr result (λ e. (e ≡ ExploreError.Memory) ⊎ (e ≡ ExploreError.Failed)) }
+    {
         let found = self.next_row()?;
         if let Some(row) = &found {
             if !comes_before::<X>(row, until) {
@@ -280,12 +259,29 @@ impl<'a, F: Flash + Drop, X: Subject> RowSource for TreeExplorer<'a, F, X> {
         Ok(found)
     }
 
+    /// Writes the line of the next row, where that comes before that key, if one is given; whether it does, and there is one.
+    ///
+    /// # Errors
+    ///
+    /// `Memory` where the flash was refused memory; `Write` where a write fails or takes no bytes, and then a prefix of the line is out.
+    /// Once the explorer has failed, `Failed`.
     #[inline(always)]
-    fn write_next_row<W: Write>(
+    pub(crate) fn write_next_row<W: Write>(
         &mut self,
         until: &Option<X::Key>,
         writer: &mut W,
-    ) -> Result<bool, ExploreError> {
+    ) -> Result<bool, ExploreError>
+        ensures writes { IfOk result (λ is. WritesRow (rows_of X.subject) until.now self.old.state
+            is self.new.state (W.contents writer.old) (W.contents writer.new)) }
+        ensures began { OnErr result (RowBegan (rows_of X.subject) until.now self.old.state
+            (W.contents writer.old) (W.contents writer.new)) }
+        ensures applied { let s = self.old.state.start in OnOk result (self.new.usage.applied
+            ≤ self.old.usage.applied + X.subject.most_for_row s.rules s.geometry) }
+        ensures leaves { LeavesExplorer F.counted self.old result self.new }
+        ensures unwritten { IsErrOf result ExploreError.Failed → writer.new ≡ writer.old }
+        ensures err { IfErr result (λ e. (e ≡ ExploreError.Memory) ⊎ (e ≡ ExploreError.Failed)
+            ⊎ (e ≡ ExploreError.Write)) }
+    {
         let counted_up = self.rows.next()?;
         let Some(row) = self.rows.row() else {
             self.line.clear();
@@ -301,7 +297,22 @@ impl<'a, F: Flash + Drop, X: Subject> RowSource for TreeExplorer<'a, F, X> {
         Ok(true)
     }
 
-    fn write_next<W: Write>(&self, writer: &mut W) -> Result<(), ExploreError> {
+    /// Writes the line that says where to go on after the last row, or a prefix of it.
+    ///
+    /// # Errors
+    ///
+    /// `Write` where a write fails or takes no bytes.
+    pub(crate) fn write_next<W: Write>(&self, writer: &mut W) -> Result<(), ExploreError>
+        ensures whole { let s = self.now.state in (last : X.Key) → s.position ≡ After last
+            → OnOk result (Appends (W.contents writer.old) (W.contents writer.new)
+            (last_line (rows_of X.subject) (Some (X.subject.cursor s.start s.choice s.bound
+            last)))) }
+        ensures prefix { let s = self.now.state in (last : X.Key) → s.position ≡ After last
+            → OnErr result (AppendsPrefix (W.contents writer.old) (W.contents writer.new)
+            (last_line (rows_of X.subject) (Some (X.subject.cursor s.start s.choice s.bound
+            last)))) }
+        ensures err { IfErr result (λ e. e ≡ ExploreError.Write) }
+    {
         let cursor = self.cursor();
         let mut line = Line::new();
         line.put("next ");
@@ -310,7 +321,12 @@ impl<'a, F: Flash + Drop, X: Subject> RowSource for TreeExplorer<'a, F, X> {
         write_text(writer, line.as_str().as_bytes())
     }
 
-    fn mark_failed(&mut self) {
+    /// Makes it one that failed, for a caller that could not write a row.
+    pub(crate) fn mark_failed(&mut self)
+        ensures lost { self.new.state.position ≡ Lost }
+        ensures usage { self.new.usage ≡ self.old.usage }
+        ensures still { self.old.state.position ≡ Lost → self.new ≡ self.old }
+    {
         self.rows.mark_failed();
     }
 }

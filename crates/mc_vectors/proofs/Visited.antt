@@ -70,8 +70,8 @@ module _ (x : PowerOn) (bound : ℕ) (cases : List Case) (index number : ℕ) (p
           let on = goes_on s from in
           let few = subst (λ (v : Content). i < length (ops_of (again x v))) cut some in (
             index_in_parent goes.2 i,
-            on.shared.within i few,
-            ap (λ (v : Content). at_cut (again x v) i) cut ∙ ap (λ (y : PowerOn). y.content) (placed_at (again x s) (at_cut (again x s) number) goes.2 on.shared i few),
+            on.within i few,
+            ap (λ (v : Content). at_cut (again x v) i) cut ∙ ap (λ (y : PowerOn). y.content) (placed_at (again x s) (at_cut (again x s) number) goes.2 on i few),
           );
     }
 

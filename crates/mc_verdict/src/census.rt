@@ -12,8 +12,8 @@ use crate::explore::{ends, is_taken_back};
 use crate::verdict::{Asked, right_if_asked, write_lines};
 use clap::ArgMatches;
 use mc_explore::{
-    CensusOf, Countable, Expectation, OfStart, RightsOf, Start, each_boots, take_census,
-    take_rights, write_census,
+    CensusOf, Countable, Expectation, RightsOf, Start, each_boots, take_census, take_rights,
+    write_census,
 };
 use mc_flash::JournalFlash;
 use mc_options::{Refusal, census_options, flash_options, read_start};
@@ -46,9 +46,9 @@ pub struct Counts<K> {
 /// # Errors
 ///
 /// `Explore` where memory failed.
-fn rights_if<'a, X: OfStart<'a> + Countable>(
+fn rights_if<X: Countable>(
     alloc: Global,
-    start: &'a Start,
+    start: &Start,
     cuts: u8,
     chosen: X::Choice,
     expectation: &Option<Expectation>,
@@ -132,9 +132,9 @@ impl Wanted<()> {
 /// # Errors
 ///
 /// `Expectation`; `Explore` where memory failed.
-pub fn count<'a, X: OfStart<'a> + Countable>(
+pub fn count<X: Countable>(
     alloc: Global,
-    wanted: &'a Wanted<X::Choice>,
+    wanted: &Wanted<X::Choice>,
 ) -> Result<Counts<X::Key>, Refusal>
     requires { wanted.now.cuts ≤ 16 }
     ensures { IfOk result (AreCounts X.subject wanted.now) }
@@ -155,8 +155,8 @@ pub fn count<'a, X: OfStart<'a> + Countable>(
 ///
 /// Those of `count`; `Write` where the output cannot be written. With `--all-boot` also `NotAllBoot` where one does not end
 /// in a boot, and with `--all-right` `NotAllRight` where one is not right; the output is written then.
-pub fn run<'a, X: Explorable + OfStart<'a> + Countable, O: Write>(
-    wanted: &'a Wanted<X::Choice>,
+pub fn run<X: Explorable + Countable, O: Write>(
+    wanted: &Wanted<X::Choice>,
     alloc: Global,
     out: &mut O,
 ) -> Result<(), Refusal>

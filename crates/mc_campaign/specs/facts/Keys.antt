@@ -1,22 +1,18 @@
 -- Campaigns are the paths of the tree of two rounds.
-use Rattle.std.specs.Prelude.{◌≡◌, ◌≤◌, ◌+◌, ◌*◌, ℕ, Bool, List, refl}
-use Rattle.std.proofs.{Common.{arith, ap}, Math.Nat.{mul-le-mul_right}}
+use Rattle.std.specs.Prelude.{◌≡◌, ◌≤◌, ◌+◌, ℕ, Bool, List, refl}
+use Rattle.std.proofs.Common.{arith, ap}
 use Rattle.mc_tree.specs.Tree.{round_one}
 use Rattle.mc_boot.specs.Plan.{PowerOn}
-use Rattle.mc_flash.specs.{Geometry.{Geometry}, Usage.{Seen, Usage, most_operations, most_saved}, declared.flash.Grain.{Grain}}
-use Rattle.mc_flash.specs.declared.flash.Grain.TheVariants as grains
-use Rattle.mc_start.specs.{Start.{on_last}, facts.Counting.{on_last-twice}, facts.Room.{limits_are}}
+use Rattle.mc_flash.specs.Usage.{Seen}
+use Rattle.mc_start.specs.{Start.{on_last}, facts.Counting.{on_last-twice}}
 use Rattle.mc_campaign.specs.facts.Cuts.{number_later}
 use Rattle.mc_walk.specs.Walks.{IsClear}
 use Rattle.mc_explore.specs.inner.Exploring.{AreKeys, LoadsFor}
 use Rattle.mc_campaign.specs.{inner.TwoRounds.{two_rounds_model}, Rows.{ShownRow, most_for_row, campaigns}}
-use Rattle.mc_campaign.specs.Rounds.{cuts_along, rounds}
+use Rattle.mc_campaign.specs.Rounds.{cuts_along}
 use Rattle.mc_campaign.specs.facts.Paths.{listed_along, path_of, same_order}
-
--- A boot makes some operation at most.
-pub some_operations : (grain : Grain) (g : Geometry) → 1 ≤ most_operations grain g
-some_operations grains.Call g = omega arith
-some_operations grains.Unit g = omega arith
+use Rattle.mc_explore.specs.{Rounds.{tree_of}, facts.BootRoom.{clear}}
+use Rattle.mc_explore.specs.declared.rounds.Rounds.TheVariants as kinds
 
 -- A row whose last cut is counted up by so much, and by more.
 abbrev with_campaign : ShownRow → List (ℕ × ℕ) → ShownRow
@@ -29,7 +25,7 @@ pub row_up : (row : ShownRow) (j : ℕ) → counted_up (j + 1) (counted_up 1 row
 row_up row j = ap (with_campaign row) (on_last-twice (number_later 1) (number_later (j + 1)) (number_later (j + 2)) (λ c. ap (λ n. (c.0, n)) (omega arith)) row.campaign)
 
 module _ (start : PowerOn) (confirms : Bool) where
-  pub are_campaigns : AreKeys campaigns (rounds confirms) (round_one start) start confirms (cuts_along confirms start)
+  pub are_campaigns : AreKeys campaigns (tree_of confirms) (round_one start) start confirms (cuts_along confirms start)
   are_campaigns = record {
     listed = λ bound path m. (listed_along confirms start bound path m).0;
     path_of = λ bound k m. let p = path_of confirms start bound k m in (p.0, p.1.member, p.1.cuts_are);
@@ -42,26 +38,7 @@ module _ (start : PowerOn) (confirms : Bool) where
 
   -- A flash that was loaded for three boots more than there are cuts, or for more, serves for a walk.
   pub campaigns_clear : (counted : Bool) (bound boots : ℕ) (f : Seen) → bound + 3 ≤ boots → LoadsFor counted start boots f → IsClear (two_rounds_model start confirms) bound f
-  campaigns_clear counted bound boots f at_most l =
-      let g = start.geometry in
-      let grain = start.rules.grain in
-      let most : ℕ = most_operations grain g in
-      let limits = limits_are grain g boots f.usage.limits l.room in
-      let entries : bound * most + 3 * most ≤ boots * most = more bound boots most at_most in
-      let saved : bound * most_saved g + 3 * most_saved g ≤ boots * most_saved g = more bound boots (most_saved g) at_most in
-      record {
-        root = record { content_is = l.content_is; layout_is = l.geometry_is };
-        none = l.none;
-        counts = ap (λ (x : Usage). x.counts) l.usage_is;
-        roomy = record {
-          entries = omega (arith, limits.for_entries, entries, some_operations grain g);
-          saved = omega (arith, limits.for_saved, saved);
-          checkpoints = omega (arith, limits.for_checkpoints, at_most);
-        };
-      }
-    where
-      more : (n many m : ℕ) → n + 3 ≤ many → n * m + 3 * m ≤ many * m
-      more n many m le = let e : (n + 3) * m ≡ n * m + 3 * m = omega arith in omega (arith, mul-le-mul_right m le, e)
+  campaigns_clear counted bound boots f at_most l = clear start counted bound boots f l (kinds.Two confirms) at_most
 
 pub three_more : (1 ≤ 3) × (3 ≤ 15)
 three_more = (omega arith, omega arith)

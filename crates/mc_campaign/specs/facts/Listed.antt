@@ -7,21 +7,12 @@ use Rattle.mc_tree.specs.{facts.Existence.{AreRows, all_from, all_rest}, facts.O
 use Rattle.mc_flash.specs.Flash.{Content}
 use Rattle.mc_boot.specs.{Restart.{confirmed_if}, Outcome.{Report, outcome_of, left_by}, facts.Run.{outcome_defined}, Plan.{PowerOn, again}}
 use Rattle.mc_explore.specs.{Pages.{IsLawful}, Schedules.{IsReplayed}, Subject.{are_lawful, rows_of}}
-use Rattle.mc_campaign.specs.{inner.TwoRounds.{began_at, later_from}, Campaigns.{Precedes, in_round, AreReplayed}}
-use Rattle.mc_campaign.specs.Rounds.{cuts_along, rounds}
-use Rattle.mc_campaign.specs.Rows.{IsRest, IsRow, campaigns, State, ShownRow, HasOutcomes, at_start, end_by}
+use Rattle.mc_campaign.specs.{Campaigns.{Precedes, in_round, AreReplayed}}
+use Rattle.mc_campaign.specs.Rounds.{cuts_along}
+use Rattle.mc_campaign.specs.Rows.{IsRest, IsRow, campaigns, State, ShownRow, HasOutcomes, at_start}
 use Rattle.mc_campaign.specs.facts.Paths.{listed_along, path_of, replayed_at, same_order, some_same}
-
--- What the uncut boot from a flash comes to, and how a path ends that leads to a node.
-abbrev pub report_from : PowerOn → Report
-report_from s = (outcome_defined s).0
-
-abbrev pub end_from : Bool → RoundNode PowerOn → Report
-end_from confirms p = end_by (report_from (began_at p)) (report_from (later_from confirms p))
-
-pub same_end : (x : PowerOn) (confirms : Bool) (path other : List ℕ) → landed (rounds confirms) (round_one x) path ≡ landed (rounds confirms) (round_one x) other
-    → end_from confirms (landed (rounds confirms) (round_one x) path) ≡ end_from confirms (landed (rounds confirms) (round_one x) other)
-same_end x confirms path other same = ap (end_from confirms) same
+use Rattle.mc_explore.specs.Rounds.{tree_of}
+use Rattle.mc_explore.specs.inner.{BootEnds.{report_from}, BootTree.{began_at, later_from}}
 
 -- ---- a campaign has one row
 
@@ -56,7 +47,7 @@ module _ (start : PowerOn) (confirms : Bool) where
 
   -- The row of a path: its campaign, and what the boots come to from the node at its end.
   abbrev pub node_at : List ℕ → RoundNode PowerOn
-  node_at path = landed (rounds confirms) (round_one start) path
+  node_at path = landed (tree_of confirms) (round_one start) path
 
   abbrev pub row_at : List ℕ → ShownRow
   row_at path = record {
@@ -65,12 +56,12 @@ module _ (start : PowerOn) (confirms : Bool) where
     second = report_from (later_from confirms (node_at path));
   }
 
-  has_outcomes : (bound : ℕ) (path : List ℕ) → IsMember (rounds confirms) (round_one start) bound path → HasOutcomes start confirms (row_at path)
+  has_outcomes : (bound : ℕ) (path : List ℕ) → IsMember (tree_of confirms) (round_one start) bound path → HasOutcomes start confirms (row_at path)
   has_outcomes bound path m =
       replayed_at confirms start bound path (row_at path).campaign (row_at path).first (row_at path).second (record { member = m; cuts_are = refl })
       (outcome_defined (began_at (node_at path))).1 (outcome_defined (later_from confirms (node_at path))).1
 
-  are_rows : (bound : ℕ) → AreRows Precedes pairs_in_order (λ row. row.campaign) (IsRow start confirms bound) (rounds confirms) (round_one start) bound row_at
+  are_rows : (bound : ℕ) → AreRows Precedes pairs_in_order (λ row. row.campaign) (IsRow start confirms bound) (tree_of confirms) (round_one start) bound row_at
   are_rows bound =
       record {
         in_order = λ l m i j before. (same_order confirms start bound l m _ _ (record { member = i; cuts_are = refl }) (record { member = j; cuts_are = refl })).1 before;
@@ -81,13 +72,13 @@ module _ (start : PowerOn) (confirms : Bool) where
       }
 
   -- The rows from the start, as those of all paths.
-  pub all_rows : (bound : ℕ) → IsRest (at_start start confirms bound) (map row_at (all_from (rounds confirms) bound (round_one start)))
+  pub all_rows : (bound : ℕ) → IsRest (at_start start confirms bound) (map row_at (all_from (tree_of confirms) bound (round_one start)))
   all_rows bound =
-      all_rest Precedes pairs_in_order (λ row. row.campaign) (IsRow start confirms bound) (rounds confirms) (round_one start) bound row_at (are_rows bound)
+      all_rest Precedes pairs_in_order (λ row. row.campaign) (IsRow start confirms bound) (tree_of confirms) (round_one start) bound row_at (are_rows bound)
 
 pub some_rest : (state : State) → (rows : List ShownRow) × IsRest state rows
 some_rest state =
-    existence.some_rest Precedes pairs_in_order (λ row. row.campaign) (IsRow state.start state.choice state.bound) (rounds state.choice)
+    existence.some_rest Precedes pairs_in_order (λ row. row.campaign) (IsRow state.start state.choice state.bound) (tree_of state.choice)
     (round_one state.start) state.bound (row_at state.start state.choice) (are_rows state.start state.choice state.bound) state.position
 
 pub campaigns_are_lawful : IsLawful (rows_of campaigns)

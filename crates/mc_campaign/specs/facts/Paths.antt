@@ -10,10 +10,11 @@ use Rattle.mc_explore.specs.{facts.Occurring.{allowed_after, allowed_occurs, lan
 use Rattle.mc_explore.specs.Boots.{boots, content_or}
 use Rattle.mc_explore.specs.Schedules as schedules
 use Rattle.mc_campaign.specs.Campaigns.{AreReplayed, CanOccur, IsMember, Precedes, in_round}
-use Rattle.mc_campaign.specs.inner.TwoRounds.{began_at, later_from}
-use Rattle.mc_campaign.specs.Rounds.{IsPathOf, cuts_along, rounds, second_start}
+use Rattle.mc_campaign.specs.Rounds.{IsPathOf, cuts_along}
 use Rattle.mc_campaign.specs.facts.Cuts.{all_first, all_second, by_rounds, ordered, pairs_length}
 use Rattle.mc_boot.specs.Plan.{PowerOn, again}
+use Rattle.mc_explore.specs.Rounds.{second_start, tree_of}
+use Rattle.mc_explore.specs.inner.BootTree.{began_at, later_from}
 
 pub some_same : {A : Type 0} (x y : A) → Some x ≡ Some y → x ≡ y
 some_same x y e = cc
@@ -96,7 +97,7 @@ module _ (confirms : Bool) where
         )
 
     -- Each path is that of the cuts along it, round by round.
-    pub listed_along : (bound : ℕ) (path : List ℕ) → tree.IsMember (rounds confirms) (round_one s) bound path
+    pub listed_along : (bound : ℕ) (path : List ℕ) → tree.IsMember (tree_of confirms) (round_one s) bound path
         → IsMember s confirms bound (cuts_along confirms s path)
         × (path ≡ in_both boots (second_start confirms) s (in_round 1 (cuts_along confirms s path)) (in_round 2 (cuts_along confirms s path)))
     listed_along bound path m =
@@ -131,17 +132,17 @@ module _ (confirms : Bool) where
     ended_at (round_two began s) = (refl, refl)
 
     pub replayed_at : (bound : ℕ) (path : List ℕ) (c : List (ℕ × ℕ)) (one two : Report) → IsPathOf s confirms bound path c
-        → outcome_of (began_at (landed (rounds confirms) (round_one s) path)) ≡ Some one
-        → outcome_of (later_from confirms (landed (rounds confirms) (round_one s) path)) ≡ Some two → (z : Content) × AreReplayed s confirms c one two z
+        → outcome_of (began_at (landed (tree_of confirms) (round_one s) path)) ≡ Some one
+        → outcome_of (later_from confirms (landed (tree_of confirms) (round_one s) path)) ≡ Some two → (z : Content) × AreReplayed s confirms c one two z
     replayed_at bound path c one two p one_is two_is =
         let along = listed_along bound path p.member in
         let d = cuts_along confirms s path in
-        let end : RoundNode PowerOn = landed (rounds confirms) (round_one s) (in_both boots (second_start confirms) s (in_round 1 d) (in_round 2 d)) in
-        let there : landed (rounds confirms) (round_one s) path ≡ end = ap (landed (rounds confirms) (round_one s)) along.1 in
+        let end : RoundNode PowerOn = landed (tree_of confirms) (round_one s) (in_both boots (second_start confirms) s (in_round 1 d) (in_round 2 d)) in
+        let there : landed (tree_of confirms) (round_one s) path ≡ end = ap (landed (tree_of confirms) (round_one s)) along.1 in
         let allowed = first_allowed d along.0.1 in
-        let at_one : began_at (landed (rounds confirms) (round_one s) path) ≡ landed boots s (in_round 1 d) =
+        let at_one : began_at (landed (tree_of confirms) (round_one s) path) ≡ landed boots s (in_round 1 d) =
         ap began_at there ∙ (ended_at end).0 ∙ both_first boots (second_start confirms) s (in_round 1 d) (in_round 2 d) allowed in
-        let at_two : later_from confirms (landed (rounds confirms) (round_one s) path) ≡ landed boots (second_start confirms (landed boots s (in_round 1 d))) (in_round 2 d) =
+        let at_two : later_from confirms (landed (tree_of confirms) (round_one s) path) ≡ landed boots (second_start confirms (landed boots s (in_round 1 d))) (in_round 2 d) =
         ap (later_from confirms) there ∙ (ended_at end).1 ∙ both_second boots (second_start confirms) s (in_round 1 d) (in_round 2 d) allowed in
         subst (λ d. (z : Content) × AreReplayed s confirms d one two z) p.cuts_are
         (are_replayed d along.0.1 one two (ap outcome_of (sym at_one) ∙ one_is) (ap outcome_of (sym at_two) ∙ two_is))

@@ -2,9 +2,10 @@
 use Rattle.std.proofs.Common.{Bool, List, ap, sym, ℕ, ◌∙◌}
 use Rattle.mc_boot.specs.{Outcome.{outcome_of}, Plan.{PowerOn}}
 use Rattle.mc_campaign.specs.{declared.last_cuts.Ends.{Ends}, declared.rounds.TwoRounds.{TwoRounds}}
-use Rattle.mc_campaign.specs.inner.LastCuts.{AreLikePaths, EndSo, EndSoAt, IsLikeNode, node_of}
-use Rattle.mc_campaign.specs.Rounds.{second_start}
+use Rattle.mc_campaign.specs.inner.LastCuts.{AreLikePaths, EndSo, EndSoAt, node_of}
 use Rattle.mc_tree.specs.Tree.{RoundNode, round_one, round_two}
+use Rattle.mc_explore.specs.Rounds.{second_start}
+use Rattle.mc_explore.specs.inner.BootEnds.{IsLikeNode}
 
 end_alike : (confirms : Bool) (p q : RoundNode PowerOn) (ends : Ends) → IsLikeNode p q → EndSo confirms p ends → EndSo confirms q ends
 end_alike confirms (round_one x) (round_one y) ends same is =

@@ -1,23 +1,13 @@
 -- The campaigns of the most cuts: what is told after their last cuts is found among what is told of the children of another node.
-use Rattle.std.specs.Prelude.{Bool, List, Some, if◌then◌else◌, length, min, nat_lt, ℕ, ◌+◌, ◌-◌, ◌<◌, ◌≡◌, ◌≤◌}
-use Rattle.mc_boot.specs.{Outcome.{ops_of, outcome_of, shown}, Plan.{PowerOn}, SharedTail.{index_in_parent}, declared.outcome.Outcome.{Outcome}, declared.shared_tail.SharedTail.{SharedTail}}
+use Rattle.std.specs.Prelude.{Bool, List, Some, if◌then◌else◌, min, nat_lt, ℕ, ◌-◌, ◌≡◌}
+use Rattle.mc_boot.specs.{Outcome.{outcome_of, shown}, Plan.{PowerOn}, declared.outcome.Outcome.{Outcome}}
 use Rattle.mc_campaign.specs.{declared.last_cuts.Ahead.{Ahead}, declared.last_cuts.Ends.{Ends}, declared.rounds.TwoRounds.{TwoRounds}}
-use Rattle.mc_campaign.specs.inner.TwoRounds.{began_at, model_of}
-use Rattle.mc_campaign.specs.Rounds.{cuts_along, rounds, second_start}
+use Rattle.mc_campaign.specs.inner.TwoRounds.{model_of}
+use Rattle.mc_campaign.specs.Rounds.{cuts_along}
 use Rattle.mc_explore.specs.{declared.at_cuts.AtCuts.{AtCuts}, inner.LastCuts.{AreLastCuts}, inner.OneRound.{begins}}
 use Rattle.mc_tree.specs.Tree.{RoundNode, landed, round_one, round_two}
-
--- Two nodes of one round where the boot begins with the same.
-abbrev pub IsLikeNode : RoundNode PowerOn → RoundNode PowerOn → Type 0
-IsLikeNode (round_one x) (round_one y) = x ≡ y
-IsLikeNode (round_one x) (round_two began y) = ⊥
-IsLikeNode (round_two began x) (round_one y) = ⊥
-IsLikeNode (round_two began x) (round_two other y) = x ≡ y
-
--- How many of its children lie in the first round.
-abbrev pub first_width : RoundNode PowerOn → ℕ
-first_width (round_one x) = length (ops_of x)
-first_width (round_two began x) = 0
+use Rattle.mc_explore.specs.Rounds.{second_start, tree_of}
+use Rattle.mc_explore.specs.inner.{BootEnds.{IsLikeNode}, BootTree.{began_at, first_width}}
 
 -- A child by its round and its number there, where so many lie in the first.
 abbrev pub cut_at : ℕ → ℕ → ℕ × ℕ
@@ -37,16 +27,9 @@ module _ (confirms : Bool) where
   EndSo (round_one x) ends = (outcome_of x ≡ Some (shown ends.first)) × (outcome_of (second_start confirms x) ≡ Some (shown ends.second))
   EndSo (round_two began x) ends = outcome_of x ≡ Some (shown ends.second)
 
-  -- The children of a node, the second, lie among those of another.
-  pub record LieIn (p q : RoundNode PowerOn) (tail : SharedTail) : Type 0 where
-    pub width : (rounds confirms).width q + tail.kept ≡ (rounds confirms).width p
-    pub at_most : tail.erases ≤ (rounds confirms).width q
-    pub within : (j : ℕ) → j < (rounds confirms).width q → index_in_parent tail j < (rounds confirms).width p
-    pub like : (j : ℕ) → j < (rounds confirms).width q → IsLikeNode ((rounds confirms).child q j) ((rounds confirms).child p (index_in_parent tail j))
-
 module _ (t : TwoRounds) where
   abbrev pub node_of : List ℕ → RoundNode PowerOn
-  node_of path = landed (rounds t.confirms) (round_one (begins t.one_round)) path
+  node_of path = landed (tree_of t.confirms) (round_one (begins t.one_round)) path
 
   abbrev pub AreLikePaths : List ℕ → List ℕ → Type 0
   AreLikePaths path other = IsLikeNode (node_of path) (node_of other)

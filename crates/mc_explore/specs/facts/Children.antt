@@ -1,6 +1,6 @@
 -- A walk that goes to the children of a node, one after another.
 use Rattle.std.proofs.Common.{List, [], arith, length, length-append, subst, suc, sym, true, ℕ, ◌++◌, ◌<◌, ◌∙◌, ◌∷◌, ◌≡◌}
-use Rattle.mc_explore.specs.inner.Table.{CanPass, HasSameLimits, Passed, ReachesChild}
+use Rattle.mc_explore.specs.inner.Table.{CanPass, HasSameLimits, IsAmong, Passed, ReachesChild}
 use Rattle.mc_tree.specs.{Tree.{Allowed, Beyond, landed}, facts.Order.{HasPassed, allowed-push, landed-push}}
 use Rattle.mc_walk.specs.{TreeModel.{HasWidth, IsChildOf, TreeModel}, Walks.{IsLastStep, IsPath, IsSame, IsThere, Walked}}
 use Rattle.mc_walk.specs.declared.frame.Frame.{Frame}
@@ -62,6 +62,15 @@ module _ {N A T B : Type 0} (model : B → TreeModel N A T) (old : Walked B) whe
             limits = limits ∙ come.limits;
             stands = there.2;
           }
+
+    pub among_there : (at : Walked B) (count : ℕ) → IsAtChild number at → count ≡ k.tree.width (landed k.tree root old.path) → IsAmong (model at.flash_tree) number count at
+    among_there at count here all = record {
+      before = old.path;
+      path_is = here.path;
+      listed = subst (λ b. IsPath (model b) at old.path) (sym here.same.flash_tree) (omega (arith, deep, here.same.bound), listed.1);
+      deep = omega (arith, deep, here.same.bound);
+      count_is = subst (λ b. count ≡ (model b).tree.width (landed (model b).tree (model b).root old.path)) (sym here.same.flash_tree) all;
+    }
 
     pub listed_there : (at : Walked B) → IsAtChild number at → IsPath (model at.flash_tree) at at.path
     listed_there at here =

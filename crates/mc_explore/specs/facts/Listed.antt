@@ -31,9 +31,6 @@ module _ (start : PowerOn) where
   abbrev pub report_after : List ℕ → Report
   report_after l = (outcome_defined (landed boots start l)).0
 
-  pub same_end : (path other : List ℕ) → landed boots start path ≡ landed boots start other → report_after path ≡ report_after other
-  same_end path other same = ap (λ x. (outcome_defined x).0) same
-
   abbrev pub row_at : List ℕ → ShownRow
   row_at l = record { schedule = l; outcome = report_after l }
 

@@ -4,7 +4,7 @@ use Rattle.mc_boot.specs.{Outcome.{ops_of, outcome_of}, Plan.{PowerOn, again}, S
 use Rattle.mc_explore.specs.{facts.Occurring.{at_is, lands_at}, inner.LastCuts.{AreLike, AreSame, HasOutcomeAt, boot_at}, inner.OneRound.{one_round}}
 use Rattle.mc_explore.specs.Boots.{at_cut, boots}
 use Rattle.mc_flash.specs.Flash.{Content}
-use Rattle.mc_tree.specs.{facts.Order.{landed-push}, inner.Weights.{IsShared, Weighing}}
+use Rattle.mc_tree.specs.facts.Order.{landed-push}
 
 module _ (x : PowerOn) (u : Content) (tail : SharedTail) (joined : IsSharedTail x u tail) where
   pub late_index : (i : ℕ) → tail.erases ≤ i → index_in_parent tail i ≡ tail.kept + i
@@ -12,9 +12,6 @@ module _ (x : PowerOn) (u : Content) (tail : SharedTail) (joined : IsSharedTail 
 
   pub placed_at : (i : ℕ) → i < length (ops_of (again x u)) → boots.child (again x u) i ≡ boots.child x (index_in_parent tail i)
   placed_at i lt = ap (again x) (lands_at x (at_cut (again x u) i) (index_in_parent tail i) (sym (joined.same i lt) ∙ at_is (again x u) i))
-
-  pub tail_shared : {M : Type 0} (w : Weighing M) (own : PowerOn → M) → IsShared w boots own x (again x u) tail.kept tail.erases (index_in_parent tail)
-  tail_shared w own = grind (arith, placed_at)
 
 module _ (from : PowerOn) where
   -- The same boot has one outcome.

@@ -100,6 +100,5 @@ module _ (start : PowerOn) where
       (x : PowerOn) (i : ℕ) → IsAt one_round x i b seen → i < length (ops_of x) → IsSummary x parent → left_by (boots.child x i) ≡ left_by x
 
 -- The boot after a cut goes on with the one that was cut: its flashes lie among those of that one, and both leave the same.
-pub record GoesOnIn (x : PowerOn) (i : ℕ) (tail : SharedTail) : Type 0 where
-  pub shared : IsSharedTail x (at_cut x i) tail
-  pub left : left_by (boots.child x i) ≡ left_by x
+abbrev pub GoesOnIn : PowerOn → ℕ → SharedTail → Type 0
+GoesOnIn x i tail = IsSharedTail x (at_cut x i) tail

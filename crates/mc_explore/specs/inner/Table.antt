@@ -125,6 +125,14 @@ module _ {N A T : Type 0} (k : TreeModel N A T) where
     ReachesChild number old new =
         (l : List ℕ) → Passed l number old → IsPath k old (l ++ number ∷ []) → (new.path ≡ l ++ number ∷ []) × IsSame old new × (new.stands ≡ true)
 
+    -- It stands at the child of that number of a node that has so many.
+    pub record IsAmong (number count : ℕ) (walk : Walked B) : Type 0 where
+      pub before : List ℕ
+      pub path_is : walk.path ≡ before ++ number ∷ []
+      pub listed : IsPath k walk before
+      pub deep : length before < walk.bound
+      pub count_is : count ≡ k.tree.width (landed k.tree k.root before)
+
     -- The walk has passed all that lies below the node where it stood.
     pub record PassesBelow (old new : Walked B) : Type 0 where
       pub same : IsSame old new

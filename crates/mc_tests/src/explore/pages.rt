@@ -3,8 +3,7 @@ ghost use Rattle.std.specs.Prelude.{◌≤◌};
 
 use super::common::swap;
 use mc_explore::{
-    Census, Explorer, OneRound, Schedule, Start, last_row, survey, survey_until, write_census,
-    write_page,
+    Census, Explorer, OneRound, Schedule, Start, last_row, survey, write_census, write_page,
 };
 use mc_flash::{JournalFlash, SnapFlash};
 use std::alloc::Global;
@@ -47,18 +46,15 @@ fn a_page_goes_on_where_the_last_one_ends(rt: HostRuntime) {
     }
 }
 
-/// How many rows stand before the last schedule of two cuts of a start, and how many are counted then; and whether they are all.
-fn rows_of(rt: &impl Abort, alloc: Global, start: &Start) -> [(u32, bool); 2] {
+/// How many rows of two cuts of a start stand on a page of so many, and how many are counted then; and whether they are all.
+fn rows_of(rt: &impl Abort, alloc: Global, start: &Start, limit: u32) -> [(u32, bool); 2]
+    requires { 1 ≤ limit }
+{
     let mut explorer = Explorer::<JournalFlash>::start(alloc, start, 2).expect(rt, "an explorer");
-    let before = survey_until(
-        &mut explorer,
-        Some(Schedule::read("17.0").expect(rt, "a text")),
-        1000,
-    )
-    .expect(rt, "a tally");
+    let page = survey(&mut explorer, limit).expect(rt, "a tally");
     let left = survey(&mut explorer, 1000).expect(rt, "a tally");
     [
-        (before.rows, before.next.is_none()),
+        (page.rows, page.next.is_none()),
         (left.rows, left.next.is_none()),
     ]
 }
@@ -66,7 +62,14 @@ fn rows_of(rt: &impl Abort, alloc: Global, start: &Start) -> [(u32, bool); 2] {
 #[test]
 fn a_survey_goes_on_where_its_page_would(rt: HostRuntime) {
     let start = swap(&rt, rt.alloc());
-    assert_eq!(rt; rows_of(&rt, rt.alloc(), &start), [(221, true), (0, true)]);
+    assert_eq!(rt;
+        rows_of(&rt, rt.alloc(), &start, 1000),
+        [(222, true), (0, true)]
+    );
+    assert_eq!(rt;
+        rows_of(&rt, rt.alloc(), &start, 200),
+        [(200, false), (22, true)]
+    );
 }
 
 /// Pages that are cut off, first beginnings of the page of a test swap of two small images; and the schedule of the last whole

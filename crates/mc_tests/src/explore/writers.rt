@@ -3,7 +3,7 @@ ghost use Rattle.std.specs.Prelude.{◌≤◌};
 
 use super::common::swap;
 use mc_campaign::CampaignExplorer;
-use mc_explore::{ExploreError, OneRound, RowSource, Start, TreeExplorer, write_rows};
+use mc_explore::{ExploreError, OneRound, Start, Subject, TreeExplorer, write_rows};
 use mc_fixtures::{FAULTS, FailingWriter, Failure, Fault};
 use mc_flash::SnapFlash;
 use std::alloc::Global;
@@ -20,19 +20,18 @@ static STOPPED: Errors = [
 ];
 
 /// What is reported of the pages of an exploration. The test ends where an allocation failed (`scripts/test/refuse-allocations-of-tests`).
-fn errors_of<S: RowSource>(
+fn errors_of<X: Subject>(
     rt: &impl Abort,
-    source: &mut S,
-    until: &S::Until,
+    explorer: &mut TreeExplorer<'_, SnapFlash, X>,
     limit: u32,
     writer: &mut FailingWriter,
 ) -> Errors
     requires { 1 ≤ limit }
 {
-    let first = write_rows(source, until, limit, writer).err();
+    let first = write_rows(explorer, &None, limit, writer).err();
     assert!(rt; first != Some(ExploreError::Memory), "error: Memory");
-    let second = write_rows(source, until, limit, writer).err();
-    [first, second, source.next_before(until).err()]
+    let second = write_rows(explorer, &None, limit, writer).err();
+    [first, second, explorer.next_before(&None).err()]
 }
 
 /// What is explored: whether it is campaigns, the most cuts, and the most rows of a page; and the first two pages of it.
@@ -53,7 +52,7 @@ fn errors(
             rt,
             "an explorer",
         );
-        errors_of(rt, &mut explorer, &None, limit, writer)
+        errors_of(rt, &mut explorer, limit, writer)
     } else {
         let mut explorer = TreeExplorer::<SnapFlash, OneRound>::start(
             alloc,
@@ -61,7 +60,7 @@ fn errors(
             bound,
             (),
         ).expect(rt, "an explorer");
-        errors_of(rt, &mut explorer, &None, limit, writer)
+        errors_of(rt, &mut explorer, limit, writer)
     }
 }
 

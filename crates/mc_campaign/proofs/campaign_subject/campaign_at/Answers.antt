@@ -3,12 +3,13 @@ use Rattle.std.proofs.lemmas.List.{length-take-le, take-append-drop}
 use Rattle.mc_tree.specs.Tree.{round_one}
 use Rattle.mc_explore.specs.Boots.{boots}
 use Rattle.mc_campaign.specs.{Campaigns.{IsInOrder}, inner.View.{begun_of}}
-use Rattle.mc_campaign.specs.Rounds.{cuts_along, second_start}
+use Rattle.mc_campaign.specs.Rounds.{cuts_along}
 use Rattle.mc_campaign.specs.facts.Cuts.{along_ordered, ordered_prefix}
 use Rattle.mc_campaign.proofs.{Along.{labelled-length}, CutsInRounds.{is_none, taken_more, taken_whole, taken_within}}
 use Rattle.mc_campaign.proofs.campaign_subject.campaign_at.Given.{Over}
 use Rattle.mc_campaign.proofs.campaign_subject.campaign_at.Goals as goal
 use Rattle.mc_campaign.proofs.campaign_subject.campaign_at.Goals.{In-Some}
+use Rattle.mc_explore.specs.Rounds.{second_start}
 
 abbrev all : (g : Over) (c : In-Some g) → List (ℕ × ℕ)
 all g c =

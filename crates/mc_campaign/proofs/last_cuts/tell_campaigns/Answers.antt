@@ -1,5 +1,6 @@
 use Rattle.std.proofs.Common.{sym}
 use Rattle.mc_campaign.specs.{inner.LastCuts.{node_of}, inner.View.{begun_of}}
+use Rattle.mc_explore.specs.declared.rounds.Rounds.TheVariants as kinds
 use Rattle.mc_campaign.proofs.last_cuts.tell_campaigns.Goals as goal
 
 pub returns-clause-ahead : goal.returns-clause-ahead
@@ -9,6 +10,6 @@ returns-clause-ahead g c =
     record {
       are = c.in_ok-rows.ensures.cuts;
       campaign_is = rw (sym c.requires.path) at c.campaign_at.ensures;
-      in_first_is = c.first_width.ensures (begun_of c.args.walk.now) t.confirms (node_of t c.args.path.now) is;
+      in_first_is = c.first_width.ensures (begun_of c.args.walk.now) (kinds.Two t.confirms) (node_of t c.args.path.now) is;
       first_is = is.first_is.1.outcome_is;
     }

@@ -4,8 +4,7 @@ use Rattle.mc_output.specs.facts.Results.{on_err, on_ok}
 use Rattle.mc_campaign.proofs.pages.write_campaign_page.Goals as goal
 
 pub returns-clause-page : goal.returns-clause-page
-returns-clause-page g c = on_ok c.write_campaign_page_until.result _ _ (whole_page (rows_of campaigns) c.args.explorer.now.state c.write_campaign_page_until.new.explorer.state c.args.limit
-    _ _) c.write_campaign_page_until.ensures.page
+returns-clause-page g c = on_ok c.write_rows.result _ _ (whole_page (rows_of campaigns) _ _ c.args.limit _ _) c.write_rows.ensures.page
 
 pub returns-clause-began : goal.returns-clause-began
-returns-clause-began g c = on_err c.write_campaign_page_until.result _ _ (whole_began (rows_of campaigns) c.args.explorer.now.state c.args.limit _ _) c.write_campaign_page_until.ensures.began
+returns-clause-began g c = on_err c.write_rows.result _ _ (whole_began (rows_of campaigns) _ c.args.limit _ _) c.write_rows.ensures.began

@@ -1,5 +1,6 @@
 use Rattle.std.proofs.{Common.{◌≡◌, ◌-◌, ap, sym, arith, ◌∙◌}, lemmas.Result.{err_from_is_err_and}}
 use Rattle.mc_explore.proofs.{PageRows.{row_paid}, PageText.{end_began, end_out, full_began, full_out, last_index, page_written, row_began}}
+use Rattle.mc_explore.specs.Subject.{State, rows_of}
 use Rattle.mc_output.specs.facts.Results.{on_err, on_ok}
 use Rattle.mc_explore.proofs.pages.write_lines.Goals as goal
 
@@ -21,19 +22,18 @@ returns-then-not-branch-clause-began g c =
 pub fill-preserved : goal.fill-preserved
 fill-preserved g c =
     let one = rw c.if-not-branch.false at c.in_ok-write_next_row.ensures.writes in
-    let goes = c.in_ok-write_next_row.ensures.goes in
-    let l = g.S.RowSource.listing in
+    let goes = c.in_ok-write_next_row.ensures.leaves in
     let inv = c.fill.invariant in
     let moved = one.1.2 in
-    let there = ap l.position moved ∙ g.met.S.RowSource.laws.position_is _ _ in
+    let there = ap (rows_of g.X.Subject.subject).position moved in
     record {
       page = page_written inv.page (c.fill.room - 1) (omega arith) _ _ one;
       not_lost = λ lost. absurd (let no = sym there ∙ lost in cc);
       stuck = λ lost. absurd (let no = goes.stays_lost (inv.stuck lost).0 in cc);
       unwritten = λ lost. absurd (let no = sym there ∙ lost in cc);
-      cost_is = ap g.S.RowSource.most_for_row moved ∙ g.met.S.RowSource.cost_stays _ _ ∙ inv.cost_is;
+      start = ap (λ (s : State g.row.X-Choice.Denot g.row.X-Key.Denot). s.start) moved ∙ inv.start;
       limits = goes.limits ∙ inv.limits;
-      applied = row_paid _ _ c.fill.room (c.fill.room - 1) _ _ (omega arith) (rw inv.cost_is at c.in_ok-write_next_row.ensures.applied) inv.applied;
+      applied = row_paid _ _ c.fill.room (c.fill.room - 1) _ _ (omega arith) (rw inv.start at c.in_ok-write_next_row.ensures.applied) inv.applied;
     }
 
 pub returns-clause-page : goal.returns-clause-page

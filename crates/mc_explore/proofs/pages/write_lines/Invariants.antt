@@ -1,23 +1,22 @@
 use Rattle.std.proofs.Common.{◌≡◌, ◌+◌, ◌*◌, ◌<◌, ◌≤◌}
 use Rattle.mc_tree.specs.Tree.{Lost}
+use Rattle.mc_explore.specs.Subject.{are_lawful, rows_of}
 use Rattle.mc_explore.proofs.PageText.{AreOut}
 use Rattle.mc_explore.proofs.pages.write_lines.Given as goal
 
 abbrev pub invariant-fill : goal.invariant-fill
 invariant-fill g l =
-    let state = g.S.RowSource.state in
-    let usage = g.S.RowSource.usage in
-    let cost = g.S.RowSource.most_for_row in
-    let position = g.S.RowSource.listing.position in
+    let x = g.X.Subject.subject in
+    let laws = are_lawful x g.met.X.Subject.order g.met.X.Subject.some_rest in
+    let cost = x.most_for_row l.fn.explorer.state.start.rules l.fn.explorer.state.start.geometry in
     record {
-      page : AreOut g.S.RowSource.listing g.met.S.RowSource.laws (g.S.RowSource.until_of l.until) (state l.fn.source) l.limit (g.W.Write.contents l.fn.writer) (state l.source) l.room
-          (g.W.Write.contents l.writer);
-      not_lost : position (state l.source) ≡ Lost → position (state l.fn.source) ≡ Lost;
-      stuck : position (state l.fn.source) ≡ Lost → (position (state l.source) ≡ Lost) × (0 < l.room);
-      unwritten : position (state l.source) ≡ Lost → (l.source ≡ l.fn.source) × (l.writer ≡ l.fn.writer);
-      cost_is : cost (state l.source) ≡ cost (state l.fn.source);
-      limits : (usage l.source).limits ≡ (usage l.fn.source).limits;
-      applied : (usage l.source).applied + l.room * cost (state l.fn.source) ≤ (usage l.fn.source).applied + l.limit * cost (state l.fn.source);
+      page : AreOut (rows_of x) laws l.until l.fn.explorer.state l.limit (g.W.Write.contents l.fn.writer) l.explorer.state l.room (g.W.Write.contents l.writer);
+      not_lost : l.explorer.state.position ≡ Lost → l.fn.explorer.state.position ≡ Lost;
+      stuck : l.fn.explorer.state.position ≡ Lost → (l.explorer.state.position ≡ Lost) × (0 < l.room);
+      unwritten : l.explorer.state.position ≡ Lost → (l.explorer ≡ l.fn.explorer) × (l.writer ≡ l.fn.writer);
+      start : l.explorer.state.start ≡ l.fn.explorer.state.start;
+      limits : l.explorer.usage.limits ≡ l.fn.explorer.usage.limits;
+      applied : l.explorer.usage.applied + l.room * cost ≤ l.fn.explorer.usage.applied + l.limit * cost;
     }
 
 abbrev pub decreases-fill : goal.decreases-fill

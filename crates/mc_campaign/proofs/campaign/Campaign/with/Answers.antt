@@ -1,7 +1,9 @@
 use Rattle.std.proofs.Common.{arith, subst, ◌≤◌}
-use Rattle.mc_campaign.specs.{Campaigns.{IsInOrder, number_of}, facts.Cuts.{last_ordered, ordered_push}, declared.campaign.Round.{Round}}
-use Rattle.mc_campaign.specs.declared.campaign.Round.TheVariants as rounds
+use Rattle.mc_campaign.specs.{Campaigns.{IsInOrder}, facts.Cuts.{last_ordered, ordered_push}}
+use Rattle.mc_explore.specs.declared.rounds.Round.TheVariants as rounds
 use Rattle.mc_campaign.proofs.campaign.Campaign.with.Goals as goal
+use Rattle.mc_explore.specs.Rounds.{number_of}
+use Rattle.mc_explore.specs.declared.rounds.Round.{Round}
 
 at_most_two : (round : Round) → number_of round ≤ 2
 at_most_two rounds.First = omega arith

@@ -4,11 +4,12 @@ use Rattle.mc_boot.specs.{Outcome.{shown}, SharedTail.{index_in_parent}}
 use Rattle.mc_start.specs.{Start.{on_last}, facts.Counting.{on_last-push}}
 use Rattle.mc_campaign.proofs.{Along.{labelled-length}, LastCuts.{campaign_ordered, cut_later, row_there, same_round, still_there}}
 use Rattle.mc_campaign.specs.{Rows.{HasOutcomes}, facts.Cuts.{number_later}, inner.LastCuts.{AreLikePaths, EndSoAt, cut_at, first_there, left_in_round}, inner.TwoRounds.{model_of}}
-use Rattle.mc_campaign.specs.Rounds.{cuts_along, rounds, second_start}
+use Rattle.mc_campaign.specs.Rounds.{cuts_along}
 use Rattle.mc_explore.specs.{facts.LastCuts.{like_there, told_there}, inner.OneRound.{begins}}
 use Rattle.mc_explore.specs.Boots.{boots}
 use Rattle.mc_tree.specs.Tree.{label, round_one}
 use Rattle.mc_campaign.proofs.campaign_subject.TwoRoundsSubject.row_ahead.Goals as goal
+use Rattle.mc_explore.specs.Rounds.{second_start, tree_of}
 
 pub returns-in_err-told-clause-row : goal.returns-in_err-told-clause-row
 returns-in_err-told-clause-row c = λ holds are allowed.
@@ -22,7 +23,7 @@ returns-in_err-campaign-clause-row c = λ holds are allowed.
     let t = c.args.self in
     let rows = c.args.rows.now in
     let path = c.args._path.now in
-    let many = labelled-length (rounds t.confirms) (label boots (second_start t.confirms)) (round_one (begins t.one_round)) path in
+    let many = labelled-length (tree_of t.confirms) (label boots (second_start t.confirms)) (round_one (begins t.one_round)) path in
     let room : length rows.ahead.campaign < 16 = omega (arith, c.requires.short, ap (λ (l : List (ℕ × ℕ)). length l) are.campaign_is, many) in
     absurd (let no = c.in_err-campaign.ensures.some room (campaign_ordered t c.args.kept.now path rows.ahead rows.count rows.next are (allowed rows.next c.requires.some)) in cc)
 

@@ -4,4 +4,4 @@ use Rattle.mc_explore.proofs.one_round.OneRound.tail_of.Goals as goal
 
 pub returns : goal.returns
 returns g c =
-    goes_on_here (begins c.args.self.now) c.args.at.now c.args.child.now c.args.parent.now (g.F.Flash.seen c.args.flash.now) c.find.result c.find.ensures c.in_ok-outcome_after.ensures.left
+    goes_on_here (begins c.args.self.now) c.args.at.now c.args.child.now c.args._parent.now (g.F.Flash.seen c.args.flash.now) c.find.result c.find.ensures
