@@ -1,13 +1,13 @@
 -- Each flash that a torn operation of a boot may leave ends as one of those that stand for all.
-use Rattle.std.proofs.{Common.{append_assoc, ap, arith, inl, inr, subst, sym, ◌∙◌}, lemmas.Bool.Decides.{nat_tests}, lemmas.Grind.{div_ceil_times}}
+use Rattle.std.proofs.{Common.{append_assoc, ap, arith, inl, inr, subst, sym, ◌∙◌}, lemmas.Grind.{div_ceil_times}}
 use Rattle.std.proofs.{lemmas.List.{drop_all}, lemmas.List.Quantifiers.{position-Some}, lemmas.Option.{get_or_from_slice_get}, Math.Nat.{mul-le-mul_right}}
 use Rattle.std.specs.{Int.{div_ceil}, List.{range_with_len}}
-use Rattle.std.specs.Prelude.{Bool, List, None, Option, Some, [], drop, false, flat_map, get_or, if◌then◌else◌, is_none, map, nat_lt, not, option_map, position, refl, replicate, slice_get, suc, true, zero, ℕ, ⊤, ◌&&◌, ◌*◌, ◌++◌, ◌+◌, ◌-◌, ◌/◌, ◌<◌, ◌==◌, ◌∷◌, ◌≡◌, ◌≤◌, ◌||◌, ◌^◌}
+use Rattle.std.specs.Prelude.{Bool, List, None, Option, Some, [], drop, false, flat_map, get_or, is_none, map, not, option_map, position, refl, replicate, slice_get, suc, true, zero, ℕ, ⊤, ◌&&◌, ◌*◌, ◌++◌, ◌+◌, ◌-◌, ◌/◌, ◌<◌, ◌==◌, ◌∷◌, ◌≡◌, ◌≤◌, ◌^◌}
 use Rattle.mc_boot.proofs.{Courses.{drop_at_place, greatest_pieces, slot_small}, Images.{some_size}, Joins.{are_equal}, Keeps.{place_beyond_data}, Meets.{all_weaker, same_bytes}}
 use Rattle.mc_boot.proofs.{Phases.{asked, flag_is, opened}, SwapsKeep.{Made, erasing_keeps, opening_keeps, preparation_keeps}}
 use Rattle.mc_boot.proofs.Transfers.{entries_none, entries_not, entry_number, fits_at, number_up, there_is}
 use Rattle.mc_boot.specs.{Life.{is_swap}, Outcome.{at, ops_of}, declared.transfer.Transfer.{Transfer}, facts.Lengths.{length-transfers}}
-use Rattle.mc_boot.specs.Plan.{closing, confirms, copy_of, entry_of, first_left, from_transfer, images_of, moved_up, new_list, new_plan, new_swap, nothing, number_of, opening_writes, plan, plan_with, power_on, preparation_writes, resumed_from, resumed_list, resumed_plan, resumed_swap, steps, swap_list, trailer_erases, transfers}
+use Rattle.mc_boot.specs.Plan.{closing, copy_of, entry_of, first_left, from_transfer, images_of, moved_up, number_of, opening_writes, plan, power_on, preparation_writes, resumed_list, steps, swap_list, trailer_erases, transfers}
 use Rattle.mc_flash.specs.{Flash.{Content, IsSized, apply, byte}, Geometry.{Geometry, IsLayout, greatest_sectors, in_pieces}, declared.op.Op.{Op}}
 use Rattle.mc_flash.specs.{declared.op.Op.TheVariants.{Erase, Program}, declared.op.Slot.TheVariants.{Primary, Secondary}}
 use Rattle.mc_flash.specs.facts.{Layouts.{data_before_trailer, data_end, data_sectors, image_is_data}, Pieces.{pieces_layout}}
@@ -16,16 +16,15 @@ use Rattle.mc_tear.proofs.{Along.{Along, along_append, along_at, along_keeps, al
 use Rattle.mc_tear.proofs.Lists.{InTarget, InTrailer, closing_pieces, entry_is, entry_pieces, erases_in, number, opening_in, opening_pieces, preparation_in, preparation_pieces, steps_in, target_pieces, transfers_pieces, writes_flag}
 use Rattle.mc_tear.proofs.{Midway.{IsUnderWay, Midway, data_op, data_still, entry_made}, OneOp.{Ends, entry_op, flag_op, second_op}}
 use Rattle.mc_tear.proofs.Opening.{Asks, CanBegin, IsClear, asks_still, data_kept, opening_op, same_both, trailer_keeps}
-use Rattle.mc_tear.proofs.Same.{SameAt}
+use Rattle.mc_tear.proofs.{PlanCases.{plan_case}, Same.{SameAt}}
 use Rattle.mc_tear.specs.{Laws.{EachEnds}, declared.torn.Erasing.{Erasing}}
-use Rattle.mc_trailer.specs.{Tables.{Asks as IsAsked, asks_another, is_good, is_resumed, is_set, is_unset, table_of}, Trailer.{entry_place, highest_entry, is_written, one_unit, place, trailer_of}}
-use Rattle.mc_trailer.specs.{declared.places.Field.{Field}, declared.tables.Rules.{Rules}, declared.tables.SwapType.{SwapType}, declared.trailer.Flag.{Flag}, declared.trailer.Magic.{Magic}, declared.trailer.Trailer.{Trailer}}
+use Rattle.mc_trailer.specs.{Tables.{asks_another, is_good, is_resumed, is_unset}, Trailer.{entry_place, highest_entry, is_written, one_unit, place, trailer_of}}
+use Rattle.mc_trailer.specs.{declared.places.Field.{Field}, declared.tables.Rules.{Rules}, declared.tables.SwapType.{SwapType}, declared.trailer.Flag.{Flag}, declared.trailer.Trailer.{Trailer}}
 use Rattle.mc_trailer.specs.facts.{Entries.{blank_entry, greatest_none, greatest_some, same_entry}, Fields.{FieldsAre, blank_fields, reads_absent, reads_copy_done, reads_good, reads_info, reads_size, same_trailer}}
-use Rattle.mc_trailer.specs.facts.{Places.{entry_ends, entry_inside, flag_range}, Tables.{and_parts, asked as asked_rows, asks_none}}
+use Rattle.mc_trailer.specs.facts.{Places.{entry_ends, entry_inside, flag_range}, Tables.{asks_none}}
 use Rattle.mc_trailer.specs.declared.places.Field.TheVariants as field
 use Rattle.mc_trailer.specs.declared.tables.SwapType.TheVariants as kinds
 use Rattle.mc_trailer.specs.declared.trailer.Flag.TheVariants as flags
-use Rattle.mc_trailer.specs.declared.trailer.Magic.TheVariants as magics
 
 module _ (e : Erasing) (r : Rules) (g : Geometry) (ok : IsLayout g) where
   abbrev l : Geometry
@@ -151,17 +150,11 @@ module _ (e : Erasing) (r : Rules) (g : Geometry) (ok : IsLayout g) where
 
   -- ---- a swap that goes on
 
-  three_parts : (a b c : Bool) → (a && b && not c) ≡ true → (a ≡ true) × (b ≡ true) × (c ≡ false)
+  pub three_parts : (a b c : Bool) → (a && b && not c) ≡ true → (a ≡ true) × (b ≡ true) × (c ≡ false)
   three_parts true true false is = (refl, refl, refl)
   three_parts true true true is = absurd cc
   three_parts true false c is = absurd cc
   three_parts false b c is = absurd cc
-
-  fits_few : (n : ℕ) → nat_lt (greatest_sectors g) n ≡ false → n ≤ greatest_sectors g
-  fits_few n is = grind (arith, nat_tests)
-
-  some_is : (n : ℕ) → (n == 0) ≡ false → 0 < n
-  some_is n is = grind (arith, nat_tests)
 
   module _ (s : Content) (sized : IsSized g s) where
     abbrev p : Trailer
@@ -172,7 +165,7 @@ module _ (e : Erasing) (r : Rules) (g : Geometry) (ok : IsLayout g) where
       few : n ≤ g.max_sectors
       few = omega (arith, at_most)
 
-      abbrev Free : Type 0
+      abbrev pub Free : Type 0
       Free = (first ≤ 3 * n) × ((d : ℕ) → entry_number g n first ≤ d → d < 3 * g.max_sectors → is_written g s d ≡ false)
 
       not_written : (d : ℕ) → (is_written g s d ≡ true → ⊥) → is_written g s d ≡ false
@@ -197,7 +190,7 @@ module _ (e : Erasing) (r : Rules) (g : Geometry) (ok : IsLayout g) where
           entry_test : (t : Transfer) → slice_get (transfers g n) i ≡ Some t → (get_or (transfers g n) i (moved_up n 0)).entry == x ≡ true → (t.entry == x) ≡ true
           entry_test t at is = ap (λ (u : Transfer). u.entry == x) (sym (get_or_from_slice_get (transfers g n) i t (moved_up n 0) at)) ∙ is
 
-      free_above : Free
+      pub free_above : Free
       free_above = by (highest_entry g s) refl left
         where
           by : (o : Option ℕ) → highest_entry g s ≡ o → first_left g n o ≡ Some first → Free
@@ -207,7 +200,7 @@ module _ (e : Erasing) (r : Rules) (g : Geometry) (ok : IsLayout g) where
     -- ---- a swap that goes on
 
     module _ (resumed : is_resumed r.profile g s ≡ true) where
-      parts : (is_good p.magic ≡ true) × (is_unset p.copy_done ≡ true) × (asks_another r.profile p (trailer_of g s Secondary) ≡ false)
+      pub parts : (is_good p.magic ≡ true) × (is_unset p.copy_done ≡ true) × (asks_another r.profile p (trailer_of g s Secondary) ≡ false)
       parts = three_parts (is_good p.magic) (is_unset p.copy_done) (asks_another r.profile p (trailer_of g s Secondary)) resumed
 
       module _ (n : ℕ) (count : div_ceil p.swap_size g.sector ≡ n) (info : is_swap p.swap_info ≡ true) where
@@ -224,30 +217,21 @@ module _ (e : Erasing) (r : Rules) (g : Geometry) (ok : IsLayout g) where
             by false = from_along n most p way first b s free.0 (record { sized = sized; primary = refl; other = parts.2; left = left; free = free.1 })
             by true = erased_along n most p way first b s free.0 (record { sized = sized; primary = refl; left = left; free = free.1 })
 
-        cut_along : (kind : SwapType) → Along g E Any (resumed_swap r.grain g p.image_ok (highest_entry g s) kind n).list s
-        cut_along kind = by (n == 0) refl (nat_lt (greatest_sectors g) n) refl
-          where
-            from : 0 < n → n ≤ greatest_sectors g → (o : Option ℕ) → first_left g n (highest_entry g s) ≡ o → Along g E Any (resumed_from r.grain g p.image_ok (highest_entry g s) kind n o).list s
-            from some most None is = tt
-            from some most (Some first) is = goes_on first (is_none (highest_entry g s)) (confirms kind p.image_ok) some most is
+  -- ---- the lists, in sections
 
-            by : (a : Bool) → (n == 0) ≡ a → (c : Bool) → nat_lt (greatest_sectors g) n ≡ c
-                → Along g E Any (if a || c then nothing kinds.Panic else resumed_from r.grain g p.image_ok (highest_entry g s) kind n (first_left g n (highest_entry g s))).list s
-            by true none c is = tt
-            by false some true is = tt
-            by false some false is = from (some_is n some) (fits_few n is) (first_left g n (highest_entry g s)) refl
+  pub swap_whole : (kind : SwapType) (size n : ℕ)
+      → (trailer_erases g Primary ++ opening_writes r.grain g kind size) ++ (trailer_erases l Secondary ++ from_transfer l n 0 false) ≡ swap_list r.grain l kind size n
+  swap_whole kind size n =
+      append_assoc (trailer_erases g Primary) (opening_writes r.grain g kind size) (trailer_erases l Secondary ++ from_transfer l n 0 false)
+      ∙ ap (λ (ops : List Op). ops ++ (opening_writes r.grain g kind size ++ (trailer_erases l Secondary ++ from_transfer l n 0 false))) (sym (erases_pieces r.grain g Primary))
+      ∙ ap (λ (ops : List Op). trailer_erases l Primary ++ (ops ++ (trailer_erases l Secondary ++ from_transfer l n 0 false))) (sym (opening_pieces r.grain g kind size))
 
-      resumed_along : Along g E Any (resumed_plan r.grain g p (highest_entry g s)).list s
-      resumed_along = by (p.swap_info == 2) refl (p.swap_info == 3) refl (p.swap_info == 4) refl
-        where
-          by : (x : Bool) → (p.swap_info == 2) ≡ x → (y : Bool) → (p.swap_info == 3) ≡ y → (z : Bool) → (p.swap_info == 4) ≡ z
-              → Along g E Any (if x then resumed_swap r.grain g p.image_ok (highest_entry g s) kinds.Test (div_ceil p.swap_size g.sector)
-              else if y then resumed_swap r.grain g p.image_ok (highest_entry g s) kinds.Perm (div_ceil p.swap_size g.sector)
-              else if z then resumed_swap r.grain g p.image_ok (highest_entry g s) kinds.Revert (div_ceil p.swap_size g.sector) else nothing kinds.None).list s
-          by true is_x y is_y z is_z = cut_along (div_ceil p.swap_size g.sector) refl (rw is_x refl) kinds.Test
-          by false is_x true is_y z is_z = cut_along (div_ceil p.swap_size g.sector) refl (rw (is_x, is_y) refl) kinds.Perm
-          by false is_x false is_y true is_z = cut_along (div_ceil p.swap_size g.sector) refl (rw (is_x, is_y, is_z) refl) kinds.Revert
-          by false is_x false is_y false is_z = tt
+  pub revert_whole : (size n : ℕ) → (trailer_erases g Secondary ++ preparation_writes r.grain g size) ++ swap_list r.grain l kinds.Revert size n
+      ≡ trailer_erases l Secondary ++ (preparation_writes r.grain l size ++ swap_list r.grain l kinds.Revert size n)
+  revert_whole size n =
+      append_assoc (trailer_erases g Secondary) (preparation_writes r.grain g size) (swap_list r.grain l kinds.Revert size n)
+      ∙ ap (λ (ops : List Op). ops ++ (preparation_writes r.grain g size ++ swap_list r.grain l kinds.Revert size n)) (sym (erases_pieces r.grain g Secondary))
+      ∙ ap (λ (ops : List Op). trailer_erases l Secondary ++ (ops ++ swap_list r.grain l kinds.Revert size n)) (sym (preparation_pieces r.grain g size))
 
   -- ---- a swap from its start
 
@@ -279,7 +263,7 @@ module _ (e : Erasing) (r : Rules) (g : Geometry) (ok : IsLayout g) where
 
     -- After its opening.
     module _ (kind : SwapType) (swaps : is_swap (number_of kind) ≡ true) (t : Content) (made : Made g Primary (opened g kind size) t) where
-      way_made : IsUnderWay g sectors (trailer_of g t Primary)
+      pub way_made : IsUnderWay g sectors (trailer_of g t Primary)
       way_made = record {
         magic = ap is_good (reads_good g t Primary ok made.sized (made.fields field.Magic));
         copy_done = ap is_unset (reads_copy_done g t Primary 255 (replicate 7 255) (made.fields field.CopyDone));
@@ -288,7 +272,7 @@ module _ (e : Erasing) (r : Rules) (g : Geometry) (ok : IsLayout g) where
         some = some_sectors;
       }
 
-      entry_blank : (d i : ℕ) → d < 3 * g.max_sectors → i < g.unit → byte t Primary (entry_place g d + i) ≡ 255
+      pub entry_blank : (d i : ℕ) → d < 3 * g.max_sectors → i < g.unit → byte t Primary (entry_place g d + i) ≡ 255
       entry_blank d i below short =
           made.clear (entry_place g d + i) (omega (arith, entry_inside g d ok below, data_before_trailer g Primary ok)) (omega (arith, short, entry_ends g d ok below))
 
@@ -302,7 +286,7 @@ module _ (e : Erasing) (r : Rules) (g : Geometry) (ok : IsLayout g) where
 
     -- From where the secondary asks for it.
     swap_along : (kind : SwapType) → is_swap (number_of kind) ≡ true → (flag : Flag) → IsClear flag → (s : Content) → Asks g start flag s → Along g E Any (swap_list r.grain l kind size sectors) s
-    swap_along kind swaps flag clear_flag s asks = subst (λ ops. Along g E Any ops s) whole
+    swap_along kind swaps flag clear_flag s asks = subst (λ ops. Along g E Any ops s) (swap_whole kind size sectors)
         (along_append g E (λ t. Asks g start flag t × Made g Primary (opened g kind size) t) Any (trailer_erases g Primary ++ opening_writes r.grain g kind size)
         (trailer_erases l Secondary ++ from_transfer l sectors 0 false) s
         (along_keeps g E _ (Asks g start flag) (Made g Primary (opened g kind size)) (trailer_erases g Primary ++ opening_writes r.grain g kind size) s
@@ -313,19 +297,13 @@ module _ (e : Erasing) (r : Rules) (g : Geometry) (ok : IsLayout g) where
         s asks)
         (opening_keeps r.grain g size ok s asks.data_.sized_v kind))
         (λ t both. swap_begun kind swaps t both.1))
-      where
-        whole : (trailer_erases g Primary ++ opening_writes r.grain g kind size) ++ (trailer_erases l Secondary ++ from_transfer l sectors 0 false) ≡ swap_list r.grain l kind size sectors
-        whole =
-            append_assoc (trailer_erases g Primary) (opening_writes r.grain g kind size) (trailer_erases l Secondary ++ from_transfer l sectors 0 false)
-            ∙ ap (λ (ops : List Op). ops ++ (opening_writes r.grain g kind size ++ (trailer_erases l Secondary ++ from_transfer l sectors 0 false))) (sym (erases_pieces r.grain g Primary))
-            ∙ ap (λ (ops : List Op). trailer_erases l Primary ++ (ops ++ (trailer_erases l Secondary ++ from_transfer l sectors 0 false))) (sym (opening_pieces r.grain g kind size))
 
     -- A revert, from its preparation.
     abbrev KeptSecond : Content → Type 0
     KeptSecond t = SameAt g (λ o i. o ≡ Secondary → i < data_end g Secondary) start t
 
     revert_along : IsSized g start → Along g E Any (trailer_erases l Secondary ++ (preparation_writes r.grain l size ++ swap_list r.grain l kinds.Revert size sectors)) start
-    revert_along sized = subst (λ ops. Along g E Any ops start) whole
+    revert_along sized = subst (λ ops. Along g E Any ops start) (revert_whole size sectors)
         (along_append g E (λ t. KeptSecond t × FieldsAre g t Secondary (asked false)) Any (trailer_erases g Secondary ++ preparation_writes r.grain g size)
         (swap_list r.grain l kinds.Revert size sectors) start
         (along_keeps g E _ KeptSecond (λ t. FieldsAre g t Secondary (asked false)) (trailer_erases g Secondary ++ preparation_writes r.grain g size) start
@@ -343,70 +321,18 @@ module _ (e : Erasing) (r : Rules) (g : Geometry) (ok : IsLayout g) where
           magic = reads_good g t Secondary ok both.0.sized_v (both.1 field.Magic);
           image_ok = flag_is g t false both.1;
         })))
-      where
-        whole : (trailer_erases g Secondary ++ preparation_writes r.grain g size) ++ swap_list r.grain l kinds.Revert size sectors
-            ≡ trailer_erases l Secondary ++ (preparation_writes r.grain l size ++ swap_list r.grain l kinds.Revert size sectors)
-        whole =
-            append_assoc (trailer_erases g Secondary) (preparation_writes r.grain g size) (swap_list r.grain l kinds.Revert size sectors)
-            ∙ ap (λ (ops : List Op). ops ++ (preparation_writes r.grain g size ++ swap_list r.grain l kinds.Revert size sectors)) (sym (erases_pieces r.grain g Secondary))
-            ∙ ap (λ (ops : List Op). trailer_erases l Secondary ++ (ops ++ swap_list r.grain l kinds.Revert size sectors)) (sym (preparation_pieces r.grain g size))
 
   -- ---- any boot
 
-  module _ (s : Content) (sized : IsSized g s) where
-    self_data : SameAt g (λ o i. i < data_end g o) s s
-    self_data = record { sized_u = sized; sized_v = sized; same = λ o i low. refl }
-
-    swap_if : (kind : SwapType) → (CanBegin g s → Along g E Any (new_list r.grain l kind (images_of s).size (div_ceil (images_of s).size g.sector)) s)
-        → Along g E Any (new_swap r.grain g (images_of s) kind).list s
-    swap_if kind so = by (images_of s).valid refl (nat_lt (greatest_sectors g) (div_ceil (images_of s).size g.sector)) refl
-      where
-        by : (a : Bool) → (images_of s).valid ≡ a → (c : Bool) → nat_lt (greatest_sectors g) (div_ceil (images_of s).size g.sector) ≡ c
-            → Along g E Any (if not a || c then nothing kinds.Fail
-            else record { kind = kind; sectors = div_ceil (images_of s).size g.sector; list = new_list r.grain l kind (images_of s).size (div_ceil (images_of s).size g.sector) }).list s
-        by false valid c is = tt
-        by true valid true is = tt
-        by true valid false is = so (record { valid = valid; few = fits_few (div_ceil (images_of s).size g.sector) is })
-
-    magic_of_good : (q : Trailer) → is_good q.magic ≡ true → q.magic ≡ magics.Good
-    magic_of_good q is = by q.magic is
-      where
-        by : (m : Magic) → is_good m ≡ true → m ≡ magics.Good
-        by magics.Good is = refl
-        by magics.Unset is = absurd cc
-        by magics.Bad is = absurd cc
-
-    flag_by : (f : Flag) → (is_unset f ≡ true → f ≡ flags.Unset) × (is_set f ≡ true → f ≡ flags.Set)
-    flag_by flags.Unset = (λ _. refl, λ is. absurd cc)
-    flag_by flags.Set = (λ is. absurd cc, λ _. refl)
-    flag_by flags.Bad = (λ is. absurd cc, λ is. absurd cc)
-
-    new_along : (kind : SwapType) → table_of r.profile g s ≡ kind → Along g E Any (new_plan r.grain g (images_of s) kind).list s
-    new_along kinds.None is = tt
-    new_along kinds.Fail is = tt
-    new_along kinds.Panic is = tt
-    new_along kinds.Revert is = swap_if kinds.Revert (λ begin. revert_along s begin sized)
-    new_along kinds.Test is =
-        let q = trailer_of g s Secondary in
-        let rows : IsAsked r.profile (trailer_of g s Primary) q kinds.Test = subst (IsAsked r.profile (trailer_of g s Primary) q) is (asked_rows r.profile (trailer_of g s Primary) q) in
-        let parts = and_parts (is_good q.magic) (is_unset q.image_ok) rows in
-        swap_if kinds.Test (λ begin. swap_along s begin kinds.Test refl flags.Unset tt s
-        (record { data_ = self_data; magic = magic_of_good q parts.0; image_ok = (flag_by q.image_ok).0 parts.1 }))
-    new_along kinds.Perm is =
-        let q = trailer_of g s Secondary in
-        let rows : IsAsked r.profile (trailer_of g s Primary) q kinds.Perm = subst (IsAsked r.profile (trailer_of g s Primary) q) is (asked_rows r.profile (trailer_of g s Primary) q) in
-        let parts = and_parts (is_good q.magic) (is_set q.image_ok) rows in
-        swap_if kinds.Perm (λ begin. swap_along s begin kinds.Perm refl flags.Set tt s
-        (record { data_ = self_data; magic = magic_of_good q parts.0; image_ok = (flag_by q.image_ok).1 parts.1 }))
-
-    plan_along : Along g E Any (plan (power_on r g s)).list s
-    unfolding plan plan_with
-    plan_along = by (is_resumed r.profile g s) refl
-      where
-        by : (b : Bool) → is_resumed r.profile g s ≡ b
-            → Along g E Any (if b then resumed_plan r.grain g (trailer_of g s Primary) (highest_entry g s) else new_plan r.grain g (images_of s) (table_of r.profile g s)).list s
-        by true resumed = resumed_along s sized resumed
-        by false fresh = new_along (table_of r.profile g s) refl
+  plan_along : (s : Content) → IsSized g s → Along g E Any (plan (power_on r g s)).list s
+  plan_along s sized = plan_case r g s (λ ops. Along g E Any ops s) tt
+      (λ resumed n first b count info some most left. goes_on s sized resumed n count info first (is_none (highest_entry g s)) b some most left)
+      (λ reverts begin. revert_along s begin sized)
+      (λ kind flag swaps clear begin magic image_ok. swap_along s begin kind swaps flag clear s (record {
+        data_ = record { sized_u = sized; sized_v = sized; same = λ o i low. refl };
+        magic = magic;
+        image_ok = image_ok;
+      }))
 
 pub each_ends : EachEnds
 unfolding at ops_of

@@ -61,24 +61,23 @@ pub record Midway (r : Rules) (g : Geometry) (n : ℕ) (p : Trailer) (k : ℕ) (
   pub left : first_left g n (highest_entry g s) ≡ Some k
   pub free : (d : ℕ) → entry_number g n k ≤ d → d < 3 * g.max_sectors → is_written g s d ≡ false
 
-abbrev Resumes : Grain → Geometry → ℕ → ℕ → List Op → Type 0
-Resumes c g n k ops = (erases : Bool) × (b : Bool) × (ops ≡ resumed_list (in_pieces c g) n k erases b)
+abbrev pub Resumes : Grain → Geometry → ℕ → ℕ → Bool → List Op → Type 0
+Resumes c g n k erases ops = (b : Bool) × (ops ≡ resumed_list (in_pieces c g) n k erases b)
 
 module _ (r : Rules) (g : Geometry) (ok : IsLayout g) (n : ℕ) (at_most : n ≤ greatest_sectors g) (p : Trailer) (way : IsUnderWay g n p) where
   few : n ≤ g.max_sectors
   few = omega (arith, at_most)
 
   module _ (k : ℕ) (s : Content) (is : Midway r g n p k s) where
-    resumed : is_resumed r.profile g s ≡ true
+    pub resumed : is_resumed r.profile g s ≡ true
     resumed =
         let other = is.other in
         let magic = way.magic in
         let copy_done = way.copy_done in
         rw is.primary (rw other (rw (magic, copy_done) refl))
 
-    swap_is : (image_ok : Flag) (kind : SwapType) → Resumes r.grain g n k (resumed_swap r.grain g image_ok (highest_entry g s) kind n).list
+    swap_is : (image_ok : Flag) (kind : SwapType) → Resumes r.grain g n k (is_none (highest_entry g s)) (resumed_swap r.grain g image_ok (highest_entry g s) kind n).list
     swap_is image_ok kind = (
-      is_none (highest_entry g s),
       confirms kind image_ok,
       rw (other_number n 0 (λ e. let some = way.some in omega (arith, e, some)), fits_so, is.left) refl,
     )
@@ -86,11 +85,11 @@ module _ (r : Rules) (g : Geometry) (ok : IsLayout g) (n : ℕ) (at_most : n ≤
         fits_so : nat_lt (greatest_sectors g) n ≡ false
         fits_so = grind (arith, nat_tests)
 
-    of_plan : Resumes r.grain g n k (resumed_plan r.grain g p (highest_entry g s)).list
+    of_plan : Resumes r.grain g n k (is_none (highest_entry g s)) (resumed_plan r.grain g p (highest_entry g s)).list
     of_plan = rw way.count (by (p.swap_info == 2) (p.swap_info == 3) (p.swap_info == 4) way.info)
       where
         by : (x y z : Bool) → (x || y || z) ≡ true
-            → Resumes r.grain g n k (if x then resumed_swap r.grain g p.image_ok (highest_entry g s) kinds.Test n
+            → Resumes r.grain g n k (is_none (highest_entry g s)) (if x then resumed_swap r.grain g p.image_ok (highest_entry g s) kinds.Test n
             else if y then resumed_swap r.grain g p.image_ok (highest_entry g s) kinds.Perm n
             else if z then resumed_swap r.grain g p.image_ok (highest_entry g s) kinds.Revert n else nothing kinds.None).list
         by true y z some = swap_is p.image_ok kinds.Test
@@ -98,11 +97,11 @@ module _ (r : Rules) (g : Geometry) (ok : IsLayout g) (n : ℕ) (at_most : n ≤
         by false false true some = swap_is p.image_ok kinds.Revert
         by false false false some = absurd cc
 
-    pub list_is : Resumes r.grain g n k (plan (power_on r g s)).list
+    pub list_is : Resumes r.grain g n k (is_none (highest_entry g s)) (plan (power_on r g s)).list
     list_is =
         let one : plan (power_on r g s) ≡ resumed_plan r.grain g p (highest_entry g s) =
         plan_resumed (power_on r g s) resumed ∙ ap (λ (t : Trailer). resumed_plan r.grain g t (highest_entry g s)) is.primary in
-        (of_plan.0, of_plan.1, ap (λ (q : Plan). q.list) one ∙ of_plan.2)
+        (of_plan.0, ap (λ (q : Plan). q.list) one ∙ of_plan.1)
 
     -- ---- within transfer k
 
@@ -111,7 +110,7 @@ module _ (r : Rules) (g : Geometry) (ok : IsLayout g) (n : ℕ) (at_most : n ≤
       e_t = target t
 
       -- Where it writes.
-      writes : (op : Op) → InTarget g t op → (slot_of op ≡ t.to) × (t.to_sector * g.sector ≤ written_from g op)
+      pub writes : (op : Op) → InTarget g t op → (slot_of op ≡ t.to) × (t.to_sector * g.sector ≤ written_from g op)
           × (written_from g op + written_len g op ≤ t.to_sector * g.sector + g.sector) × CanTry g op
       writes (Erase o sector) (slot, index) =
           rw (slot, index) (refl, omega arith, omega arith, (fits g ok n at_most k t at).inside.to)
@@ -175,12 +174,13 @@ module _ (r : Rules) (g : Geometry) (ok : IsLayout g) (n : ℕ) (at_most : n ≤
           elim (out (here ∙ w.0)) [ inl low ↦ inl (omega (arith, low, w.1)) | inr high ↦ inr (omega (arith, high, w.2)) ])) in
           let plans : plan (power_on r g v) ≡ plan (power_on r g s) = same_plan g e_t s v ok is.sized below one r resumed in
           let list = list_is in
-          let es : List Sector = first_of list.0 ++ e_t ∷ [] in (
+          let erases : Bool = is_none (highest_entry g s) in
+          let es : List Sector = first_of erases ++ e_t ∷ [] in (
             s,
             inl refl,
             erased_ends r g v s es plans
-                (ap (λ (q : Plan). take (length es) q.list) plans ∙ ap (take (length es)) list.2 ∙ begins list.0 list.1)
-                (sym (blank_same g es s v (fit_there g es s is.sized (there_too (first_of list.0) (first_there list.0))) (wider (first_of list.0) v one))),
+                (ap (λ (q : Plan). take (length es) q.list) plans ∙ ap (take (length es)) list.1 ∙ begins erases list.0)
+                (sym (blank_same g es s v (fit_there g es s is.sized (there_too (first_of erases) (first_there erases))) (wider (first_of erases) v one))),
           )
 
       -- It leaves all after the data.

@@ -85,7 +85,7 @@ module _ (e : Erasing) (r : Rules) (g : Geometry) (ok : IsLayout g) (s : Content
           ∙ torn_same (torn e g op s reading) (cases_are_torn e g op s whole reading ok sized range makes case) o i away
 
     -- Where its first byte is 0xff nothing happened.
-    nothing_yet : (v : Content) → IsTorn (tearing_of e) g op s v → byte v Primary at ≡ 255 → v ≡ s
+    pub nothing_yet : (v : Content) → IsTorn (tearing_of e) g op s v → byte v Primary at ≡ 255 → v ≡ s
     nothing_yet v torn_v is = same_content s v (each Primary) (each Secondary)
       where
         each : (o : Slot) → bytes_of v o ≡ bytes_of s o
@@ -140,10 +140,10 @@ module _ (e : Erasing) (r : Rules) (g : Geometry) (ok : IsLayout g) (s : Content
   ))
 
   -- A flag.
-  unset_is : (q : ℕ) → flag_of q ≡ flags.Unset → q ≡ 255
+  pub unset_is : (q : ℕ) → flag_of q ≡ flags.Unset → q ≡ 255
   unset_is q is = grind arith
 
-  flag_written : (p q : ℕ) → flag_of q ≡ flag_of p → p ≢ 255 → q ≢ 255
+  pub flag_written : (p q : ℕ) → flag_of q ≡ flag_of p → p ≢ 255 → q ≢ 255
   flag_written p q alike other same = other (unset_is p (sym alike ∙ ap flag_of same))
 
   pub flag_op : (f : Field) → (f ≡ field.ImageOk) ⊎ (f ≡ field.CopyDone) → Ends e r g s (writes_flag g f)

@@ -81,7 +81,7 @@ asked_kind flags.Bad = kinds.None
 
 module _ (r : Rules) (g : Geometry) (start : Content) (begin : CanBegin g start) where
   -- The plan of what asks so, where the images are those of the start.
-  plan_of : (flag : Flag) → IsClear flag → (s : Content) → (trailer_of g s Secondary).magic ≡ magics.Good → (trailer_of g s Secondary).image_ok ≡ flag → images_of s ≡ images_of start
+  pub plan_of : (flag : Flag) → IsClear flag → (s : Content) → (trailer_of g s Secondary).magic ≡ magics.Good → (trailer_of g s Secondary).image_ok ≡ flag → images_of s ≡ images_of start
       → plan (power_on r g s) ≡ starting r.grain g (asked_kind flag) (images_of start).size (div_ceil (images_of start).size g.sector)
   plan_of flags.Unset clear s magic flag images =
       let another = asks_clearly r.profile (trailer_of g s Primary) (trailer_of g s Secondary) magic (λ bad. let no_ : flags.Unset ≡ flags.Bad = sym flag ∙ bad in absurd cc) in
@@ -104,7 +104,7 @@ module _ (r : Rules) (g : Geometry) (start : Content) (begin : CanBegin g start)
 
   module _ (e : Erasing) (ok : IsLayout g) (flag : Flag) (clear : IsClear flag) (s : Content) (asks : Asks g start flag s) where
     -- It does not go on with a swap.
-    not_resumed : (v : Content) → (trailer_of g v Secondary).magic ≡ magics.Good → (trailer_of g v Secondary).image_ok ≡ flag → is_resumed r.profile g v ≡ true → ⊥
+    pub not_resumed : (v : Content) → (trailer_of g v Secondary).magic ≡ magics.Good → (trailer_of g v Secondary).image_ok ≡ flag → is_resumed r.profile g v ≡ true → ⊥
     not_resumed v magic image_ok resumed =
         let another = asks_clearly r.profile (trailer_of g v Primary) (trailer_of g v Secondary) magic (λ bad. absurd (clear_not flag clear (sym image_ok ∙ bad))) in
         let no_ : false ≡ true = sym (rw another (grind arith)) ∙ resumed in absurd cc

@@ -141,7 +141,7 @@ reads_them f t u w magic image_ok copy_done =
 good_is : (xs : List ℕ) → magic_of xs ≡ magics.Good → xs ≡ magic_bytes
 good_is xs is = (bytes_eq-Decides xs magic_bytes).0 (grind arith)
 
-unset_is : (xs : List ℕ) → magic_of xs ≡ magics.Unset → is_blank xs ≡ true
+pub unset_is : (xs : List ℕ) → magic_of xs ≡ magics.Unset → is_blank xs ≡ true
 unset_is xs is = grind arith
 
 no_fives : (k : ℕ) → k < 16 → slice_index magic_bytes k ≡ 0x55 → ⊥
@@ -213,7 +213,7 @@ module _ (g : Geometry) (ok : IsLayout g) (op : Op) (r : Reading) where
       let c = place_inside g (slot_of op) field.CopyDone ok in grind (arith, nat_tests)
 
   -- Before the fields it is the entry's, or none.
-  value_else : (i : ℕ) (b : Bool) → i + 32 < size_of g (slot_of op) → (is_entry g op && i == written_from g op) ≡ b → value_at g op r i ≡ (if b then option_map entry_byte r.entry else None)
+  pub value_else : (i : ℕ) (b : Bool) → i + 32 < size_of g (slot_of op) → (is_entry g op && i == written_from g op) ≡ b → value_at g op r i ≡ (if b then option_map entry_byte r.entry else None)
   value_else i b low is = rw (not_magic, not_image_ok, not_copy_done, is) refl
     where
       not_magic : is_within (place g (slot_of op) field.Magic) 16 i ≡ false
@@ -563,6 +563,15 @@ module _ (e : Erasing) (g : Geometry) (op : Op) (s v : Content) (ok : IsLayout g
       by true is = reads_magic is
       by false no_ = same_magic g v t slot ok sized_v sized_t (λ i within. at_kept (m + i) (unchanged no_ i within))
 
+  -- A byte of the magic that may change is as the reading says.
+  magic_changed : (k : ℕ) → k < 16 → may_change_at e g op s (m + k) ≡ true → byte t slot (m + k) ≡ magic_byte k (trailer_of g v slot).magic
+  magic_changed k short free =
+      at_free (m + k) (Some (magic_byte k (trailer_of g v slot).magic)) free
+      (value_magic g ok op r k short ∙ ap (λ (b : Bool). option_map (magic_byte k) (named b (trailer_of g v slot).magic)) named_so)
+    where
+      named_so : F.magic ≡ true
+      named_so = ap not (one_fails (λ i. not (may_change_at e g op s i)) m 16 (m + k) (omega arith) (omega (arith, short)) (ap not free))
+
   pub image_ok_alike : (trailer_of g t slot).image_ok ≡ (trailer_of g v slot).image_ok
   unfolding trailer_of
   image_ok_alike = by F.image_ok refl
@@ -598,6 +607,10 @@ pub record StandsFor (e : Erasing) (g : Geometry) (op : Op) (s v t : Content) : 
   pub magic : (trailer_of g t (slot_of op)).magic ≡ (trailer_of g v (slot_of op)).magic
   pub image_ok : (trailer_of g t (slot_of op)).image_ok ≡ (trailer_of g v (slot_of op)).image_ok
   pub copy_done : is_primary (slot_of op) ≡ true → (trailer_of g t (slot_of op)).copy_done ≡ (trailer_of g v (slot_of op)).copy_done
+  -- A byte that may not change is that of both, and one of the magic that may is as its reading says.
+  pub kept : (i : ℕ) → may_change_at e g op s i ≡ false → byte t (slot_of op) i ≡ byte v (slot_of op) i
+  pub magic_is : (k : ℕ) → k < 16 → may_change_at e g op s (place g (slot_of op) field.Magic + k) ≡ true
+      → byte t (slot_of op) (place g (slot_of op) field.Magic + k) ≡ magic_byte k (trailer_of g v (slot_of op)).magic
 
 pub stands_for : (e : Erasing) (g : Geometry) (op : Op) (s v : Content) → IsLayout g → IsSized g s → CanTry g op → IsTorn (tearing_of e) g op s v
     → (t : Content) × StandsFor e g op s v t
@@ -610,8 +623,15 @@ stands_for e g op s v ok sized can left = (
     magic = magic_alike e g op s v ok sized can left;
     image_ok = image_ok_alike e g op s v ok sized can left;
     copy_done = copy_done_alike e g op s v ok sized can left;
+    kept = λ i no_. at_kept e g op s v ok sized can left i no_;
+    magic_is = λ k short free. magic_changed e g op s v ok sized can left k short free;
   },
 )
+
+-- A torn flash keeps each byte that may not change.
+pub torn_kept : (e : Erasing) (g : Geometry) (op : Op) (s v : Content) → IsLayout g → IsSized g s → CanTry g op → IsTorn (tearing_of e) g op s v
+    → (i : ℕ) → may_change_at e g op s i ≡ false → byte v (slot_of op) i ≡ byte s (slot_of op) i
+torn_kept e g op s v ok sized can left = kept_at e g op s v ok sized can left
 
 -- A torn flash is as before outside of what the operation writes.
 pub torn_out : (e : Erasing) (g : Geometry) (op : Op) (s v : Content) → IsLayout g → IsSized g s → CanTry g op → IsTorn (tearing_of e) g op s v

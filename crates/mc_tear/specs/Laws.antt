@@ -1,13 +1,15 @@
 -- What the readings of a torn operation stand for, among all that it may leave.
-use Rattle.std.specs.Prelude.{Bool, List, Option, Some, length, not, option_map, slice_get, slice_index, true, ℕ, ◌<◌, ◌≡◌, ◌≤◌, ◌⊎◌}
-use Rattle.mc_boot.specs.{Life.{is_at_rest}, Outcome.{at, left_by, ops_of, outcome_of}, Plan.{PowerOn, again, image_size}, Torn.{IsTorn}}
+use Rattle.std.specs.Int.{div_ceil}
+use Rattle.std.specs.Prelude.{Bool, List, None, Option, Some, [], length, not, option_map, slice_get, slice_index, true, ℕ, ◌&&◌, ◌<◌, ◌∷◌, ◌≡◌, ◌≤◌, ◌⊎◌}
+use Rattle.mc_boot.specs.{Life.{is_at_rest}, Outcome.{at, left_by, ops_of, outcome_of}, Plan.{PowerOn, again, image_size, images_of}, Torn.{IsTorn, Loses}}
 use Rattle.mc_flash.specs.{Flash.{CanTry, Content, IsSized, apply, byte, bytes_of, is_blank}, Geometry.{Geometry, IsLayout}, declared.op.Op.{Op}}
 use Rattle.mc_flash.specs.{declared.op.Slot.{Slot}, declared.op.Slot.TheVariants.{Primary}, facts.Layouts.{data_end}}
 use Rattle.mc_image.specs.{Image.{IsBytes}, Valid.{Identity, id_of}}
-use Rattle.mc_trailer.specs.{Tables.{is_resumed}, Trailer.{bytes_at, trailer_of}, declared.tables.Rules.{Rules}}
+use Rattle.mc_trailer.specs.{Tables.{is_good, is_resumed, is_unset}, Trailer.{bytes_at, trailer_of}, declared.tables.Rules.{Rules}, declared.trailer.Trailer.{Trailer}}
 use Rattle.mc_tear.specs.Cases.{fields_of, if_named, is_case, names, reads_as, slot_of, tearing_of, torn, written_from}
 use Rattle.mc_tear.specs.{Readings.{reading_of}, declared.reading.Entry.{Entry}, declared.reading.Reading.{Reading}, declared.torn.Erasing.{Erasing}}
 use Rattle.mc_tear.specs.declared.reading.Entry.TheVariants as entries
+use Rattle.mc_tear.specs.declared.torn.Erasing.TheVariants as erasings
 
 -- The flash of a case is one that the torn operation may leave.
 abbrev pub CasesAreTorn : Type 0
@@ -86,3 +88,50 @@ EachEnds =
     → slice_get (ops_of x) n ≡ Some op → at x n ≡ Some s → IsTorn (tearing_of e) x.geometry op s v
     → left_by (again x v) ≡ Some z → AsksApart x.rules x.geometry v → ImagesApart x.geometry z
     → (u : Content) × IsListed e x.geometry op s u × EndAlike (again x v) (again x u)
+
+-- ---- losses of power one after another
+
+-- The primary's trailer says that a swap is under way.
+abbrev pub says_under_way : Trailer → Bool
+says_under_way p = is_good p.magic && is_unset p.copy_done
+
+-- Both slots begin with whole images, and the swap of which the primary's trailer says so is of as many sectors as they need.
+pub record IsWhole (g : Geometry) (v : Content) : Type 0 where
+  pub images : ImagesInside g v
+  pub count : div_ceil (images_of v).size g.sector ≡ div_ceil (trailer_of g v Primary).swap_size g.sector
+
+-- The boot from a flash goes on with a swap, and asks for no image; or no image depends on a trailer, and, where erases are rough and a swap
+-- is said to be under way, both images are whole: the first transfer of that swap may have left any bytes behind them.
+abbrev pub AsksSafely : Erasing → Rules → Geometry → Content → Type 0
+AsksSafely e r g v =
+    (is_resumed r.profile g v ≡ true)
+    ⊎ (ImagesApart g v × (e ≡ erasings.Rough → says_under_way (trailer_of g v Primary) ≡ true → IsWhole g v))
+
+-- Boot after boot loses power, before an operation or within it; v is what the last leaves, and each boot asks so.
+abbrev pub TearsSafely : Erasing → PowerOn → List ℕ → Content → Type 0
+TearsSafely e x [] v = v ≡ x.content
+TearsSafely e x (c ∷ cuts) v =
+    (w : Content) × Loses (tearing_of e) x c w × AsksSafely e x.rules x.geometry w × TearsSafely e (again x w) cuts v
+
+-- What a loss leaves that is a cut before operation n, or a case of that operation.
+abbrev pub LeavesCase : Erasing → PowerOn → ℕ → Option Reading → Content → Type 0
+LeavesCase e x n None u = (n < length (ops_of x)) × (at x n ≡ Some u)
+LeavesCase e x n (Some r) u =
+    (op : Op) × (s : Content) × (slice_get (ops_of x) n ≡ Some op) × (at x n ≡ Some s)
+    × (is_case e x.geometry op s r ≡ true) × (u ≡ torn e x.geometry op s r)
+
+-- Boot after boot, so.
+abbrev pub CasesLeave : Erasing → PowerOn → List (ℕ × Option Reading) → Content → Type 0
+CasesLeave e x [] u = u ≡ x.content
+CasesLeave e x (l ∷ losses) u =
+    (t : Content) × LeavesCase e x l.0 l.1 t × CasesLeave e (again x t) losses u
+
+-- Whatever any number of losses leave, before operations and within them, from whatever flash: the boot that is then left alone ends as
+-- after as many cuts and cases.
+abbrev pub EachChainEnds : Type 0
+EachChainEnds =
+    (e : Erasing) (x : PowerOn) (cuts : List ℕ) (v z : Content)
+    → IsLayout x.geometry → IsSized x.geometry x.content → TearsSafely e x cuts v
+    → left_by (again x v) ≡ Some z → ImagesApart x.geometry z
+    → (losses : List (ℕ × Option Reading)) × (u : Content) × (length losses ≡ length cuts)
+    × CasesLeave e x losses u × EndAlike (again x v) (again x u)

@@ -1,5 +1,5 @@
 //! What the readings of a torn operation stand for.
-ghost use Rattle.mc_tear.specs.Laws.{CasesAreTorn, EachEnds, EachIsRead, InsideIsApart};
+ghost use Rattle.mc_tear.specs.Laws.{CasesAreTorn, EachChainEnds, EachEnds, EachIsRead, InsideIsApart};
 
 use mc_image::same_prefix;
 
@@ -7,11 +7,13 @@ use mc_image::same_prefix;
 /// as one of the readings says, and so is the flash of that reading (`each`): that reading is a case, or its flash is that of the
 /// finished operation. And the boot from each flash that a torn operation of a boot may leave ends as the boot from a case, or as after a
 /// power cut before the operation or behind it, whatever flash the torn boot began with, if no image that is asked for depends on a trailer
-/// (`ends`); valid images that end before the trailers' sectors depend on none (`inside`).
+/// (`ends`); valid images that end before the trailers' sectors depend on none (`inside`). And whatever any number of losses leave, each in the
+/// boot from what the one before it left, the boot that is then left alone ends as after as many cuts and cases (`chain`).
 pub fn readings_law()
     ensures torn { CasesAreTorn }
     ensures each { EachIsRead }
     ensures ends { EachEnds }
+    ensures chain { EachChainEnds }
     ensures inside { InsideIsApart }
 {
     same_prefix();

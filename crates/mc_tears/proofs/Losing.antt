@@ -3,12 +3,12 @@ use Rattle.std.proofs.{Common.{ap, append-nil, append_assoc, arith, drop-cons, i
 use Rattle.std.proofs.lemmas.List.Elements.{All-contains}
 use Rattle.std.specs.Prelude.{All, Bool, Contains, List, None, Option, Some, [], drop, false, get_or, if◌then◌else◌, length, nat_lt, option_and_then, option_map, refl, slice_get, suc, true, zero, ℕ, ◌*◌, ◌++◌, ◌+◌, ◌/◌, ◌%◌, ◌<◌, ◌∷◌, ◌≡◌, ◌≤◌, ◌⊎◌}
 use Rattle.mc_boot.specs.{Outcome.{at, left_by, ops_of, outcome_of}, Plan.{PowerOn, again}}
-use Rattle.mc_explore.specs.{Boots.{at_cut}, facts.Occurring.{at_is}, inner.OneRound.{most_of}}
+use Rattle.mc_explore.specs.{Boots.{at_cut, content_or}, facts.Occurring.{at_is}, inner.OneRound.{most_of}}
 use Rattle.mc_flash.specs.{Flash.{Content}, Geometry.{Geometry}, Usage.{Counts, HasRoom, Keeps, Limits, Seen, marked, went_back}, declared.op.Op.{Op}, facts.Spends.{keeps_both}}
-use Rattle.mc_tear.specs.{Cases.{is_case, torn}, Readings.{entry_of, flag_of, magic_of, reading_of}}
+use Rattle.mc_tear.specs.{Cases.{is_case, torn}, Laws.{CasesLeave, EachChainEnds, LeavesCase}, Readings.{entry_of, flag_of, magic_of, reading_of}}
 use Rattle.mc_tear.specs.{declared.reading.Entry.{Entry}, declared.reading.Reading.{Reading}, declared.torn.Erasing.{Erasing}}
 use Rattle.mc_tear.specs.declared.reading.Entry.TheVariants as entries
-use Rattle.mc_tears.specs.Losses.{AnyLosses, AreLostCases, AtMost, HasNoCollision, IsLostCase, after_losses, entry_digit, flag_digit, loss_number, lost, lost_at, magic_digit, numbers_of, reading_number, within_number}
+use Rattle.mc_tears.specs.Losses.{AnyLosses, AreLostCases, AtMost, Covers, EndsAsOne, HasNoCollision, IsLostCase, after_losses, entry_digit, flag_digit, loss_number, lost, lost_at, magic_digit, numbers_of, reading_number, within_number}
 use Rattle.mc_tears.specs.{Tears.{op_flash}, declared.loss.Loss.{Loss}, declared.losses.LostCase.{LostCase}}
 use Rattle.mc_tears.specs.inner.Losing.{Expands, IsCaseHere, IsFrom, Leaves, StandsAt, searched}
 use Rattle.mc_tears.specs.inner.Standing.{CanMark, IsBack, Puts, Stands}
@@ -241,6 +241,36 @@ expands_on e d y losses old now new a b b' c c' same first one more two x bound 
     subst (λ z. Expands e y losses now z new c) (sym one) (subst (λ z. Expands e y losses now b' new z) two (subst (λ z. Expands z y losses now b' new c') same more)) in
     next x bound index p from (first x bound index p from exp)
 
+-- What a cut leaves, and a case.
+leaves_lost : (e : Erasing) (y : PowerOn) (n : ℕ) (w : Option Reading) (t : Content) → LeavesCase e y n w t → lost_at e y n w ≡ Some t
+unfolding at_cut
+leaves_lost e y n None t is = ap (λ b. if b then at y n else None) (early is.0) ∙ is.1
+  where
+    early : n < length (ops_of y) → nat_lt n (length (ops_of y)) ≡ true
+    early lt = grind (arith, nat_tests)
+leaves_lost e y n (Some r) t (op, s, next, reached, case, made) =
+    let there : at_cut y n ≡ s = ap (content_or y.content) reached in
+    tear_lost e y n op next r (ap (λ (z : Content). is_case e y.geometry op z r) there ∙ case)
+    ∙ ap (λ (z : Content). Some (torn e y.geometry op z r)) there ∙ ap (λ (z : Content). Some z) (sym made)
+
+all_lost : (e : Erasing) (y : PowerOn) (losses : List (ℕ × Option Reading)) (u : Content) → CasesLeave e y losses u
+    → (l : List Loss) × (length l ≡ length losses) × (after_losses e y l ≡ Some u)
+all_lost e y [] u is = ([], refl, ap (λ (z : Content). Some z) (sym is))
+all_lost e y (one ∷ losses) u (t, first, more) =
+    let rest = all_lost e (again y t) losses u more in (
+      record { operation = one.0; within = one.1 } ∷ rest.0,
+      ap (λ (n : ℕ). suc n) rest.1,
+      ap (option_and_then (λ z. after_losses e (again y z) rest.0)) (leaves_lost e y one.0 one.1 t first) ∙ rest.2,
+    )
+
+-- So where the flash of such losses is that of a case, each end is.
+ends_as_one : EachChainEnds → (e : Erasing) (x : PowerOn) (IsAsked : List Loss → Type 0) (cases : List LostCase) → Covers e x IsAsked cases → EndsAsOne e x IsAsked cases
+ends_as_one law e x IsAsked cases covers cuts v z asked ok sized tears left apart =
+    let chain = law e x cuts v z ok sized tears left apart in
+    let lost_so = all_lost e x chain.0 chain.1 chain.3 in
+    let case = covers lost_so.0 chain.1 (asked lost_so.0 (lost_so.1 ∙ chain.2)) lost_so.2 in
+    (case.0, chain.1, case.1, case.2, chain.4)
+
 -- There is no loss in an operation that the boot does not make.
 lost_early : (e : Erasing) (y : PowerOn) (n : ℕ) (w : Option Reading) (u : Content) → lost_at e y n w ≡ Some u → n < length (ops_of y)
 lost_early e y n None u is = by (nat_lt n (length (ops_of y))) refl is
@@ -408,11 +438,23 @@ module _ (e : Erasing) (x : PowerOn) (bound : ℕ) (cases : List LostCase) (inde
         ]) x.content begins u is in
         (w.0, w.1, w.2, subst (λ (k : List ℕ). IsNoLater (numbers_of w.0.losses.items) (k ++ numbers_of l)) root.2 w.3)
 
-  pub are_cases : AreLostCases e x (AtMost bound) cases
-  are_cases = record { each = s.each; sorted = s.sorted; distinct = s.distinct; all = λ safe l u few is. from_root safe l u (inl few) is }
+  pub are_cases : EachChainEnds → AreLostCases e x (AtMost bound) cases
+  are_cases law = record {
+    each = s.each;
+    sorted = s.sorted;
+    distinct = s.distinct;
+    all = λ safe l u few is. from_root safe l u (inl few) is;
+    ends = λ safe. ends_as_one law e x (AtMost bound) cases (λ l u few is. from_root safe l u (inl few) is);
+  }
 
-  pub are_all : IsWhole → AreLostCases e x AnyLosses cases
-  are_all whole = record { each = λ c inside. ((s.each c inside).0, tt); sorted = s.sorted; distinct = s.distinct; all = λ safe l u few is. from_root safe l u (inr whole) is }
+  pub are_all : EachChainEnds → IsWhole → AreLostCases e x AnyLosses cases
+  are_all law whole = record {
+    each = λ c inside. ((s.each c inside).0, tt);
+    sorted = s.sorted;
+    distinct = s.distinct;
+    all = λ safe l u few is. from_root safe l u (inr whole) is;
+    ends = λ safe. ends_as_one law e x AnyLosses cases (λ l u few is. from_root safe l u (inr whole) is);
+  }
 
 -- ---- from start to start
 

@@ -2,9 +2,9 @@
 -- (docs/FORMAT.md, "Vectors"): this project's own.
 use Rattle.std.specs.Prelude.{AllPairs, Contains, List, None, Option, Some, [], codes, decimal, flat_map, length, map, option_and_then, ℕ, ⊤, ◌*◌, ◌++◌, ◌+◌, ◌∷◌, ◌≡◌, ◌≢◌, ◌≤◌}
 use Rattle.mc_boot.specs.{Outcome.{cut_at, left_by, outcome_of, shown}, Plan.{PowerOn, again}}
-use Rattle.mc_flash.specs.Flash.{Content}
+use Rattle.mc_flash.specs.{Flash.{Content, IsSized}, Geometry.{IsLayout}}
 use Rattle.hex.specs.Hex.{encode_lower}
-use Rattle.mc_tear.specs.{Readings.{reading_text}, declared.reading.Entry.{Entry}, declared.reading.Reading.{Reading}, declared.torn.Erasing.{Erasing}}
+use Rattle.mc_tear.specs.{Laws.{EndAlike, ImagesApart, TearsSafely}, Readings.{reading_text}, declared.reading.Entry.{Entry}, declared.reading.Reading.{Reading}, declared.torn.Erasing.{Erasing}}
 use Rattle.mc_tears.specs.{Tears.{case_flash}, declared.loss.Loss.{Loss}, declared.losses.LostCase.{LostCase}}
 use Rattle.mc_trailer.specs.{declared.trailer.Flag.{Flag}, declared.trailer.Magic.{Magic}}
 use Rattle.mc_vectors.specs.{Cases.{ComesBefore, IsNoLater, flash_digest}, Table.{ended_text, field, names_text}}
@@ -87,12 +87,21 @@ Covers e x IsAsked cases =
     (l : List Loss) (u : Content) → IsAsked l → after_losses e x l ≡ Some u
     → (c : LostCase) × Contains cases c × (after_losses e x c.losses.items ≡ Some u) × IsNoLater (numbers_of c.losses.items) (numbers_of l)
 
--- The flashes that such losses leave, each once, in the order of their first losses.
+-- Whatever flash as many losses leave, that any torn operations may leave: the boot that is then left alone ends as from the flash of a case,
+-- where each boot asks safely for images, and none in what is left at the end depends on a trailer.
+abbrev pub EndsAsOne : Erasing → PowerOn → (List Loss → Type 0) → List LostCase → Type 0
+EndsAsOne e x IsAsked cases =
+    (cuts : List ℕ) (v z : Content) → ((l : List Loss) → length l ≡ length cuts → IsAsked l)
+    → IsLayout x.geometry → IsSized x.geometry x.content → TearsSafely e x cuts v → left_by (again x v) ≡ Some z → ImagesApart x.geometry z
+    → (c : LostCase) × (u : Content) × Contains cases c × (after_losses e x c.losses.items ≡ Some u) × EndAlike (again x v) (again x u)
+
+-- The flashes that such losses leave, each once, in the order of their first losses; and all ends of such losses.
 pub record AreLostCases (e : Erasing) (x : PowerOn) (IsAsked : List Loss → Type 0) (cases : List LostCase) : Type 0 where
   pub each : (c : LostCase) → Contains cases c → IsLostCase e x c × IsAsked c.losses.items
   pub sorted : AllPairs (λ c d. ComesBefore (numbers_of c.losses.items) (numbers_of d.losses.items)) cases
   pub distinct : AllPairs (λ c d. c.digest ≢ d.digest) cases
   pub all : HasNoCollision e x → Covers e x IsAsked cases
+  pub ends : HasNoCollision e x → EndsAsOne e x IsAsked cases
 
 -- Of at most so many losses; and of any number.
 abbrev pub AtMost : ℕ → List Loss → Type 0

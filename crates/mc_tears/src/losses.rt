@@ -23,7 +23,7 @@ use crate::tears::next_op;
 use mc_boot::Outcome;
 use mc_explore::{OneRound, Schedule, Start, flash_at_cut};
 use mc_flash::{Flash, Op};
-use mc_tear::{Erasing, Reading};
+use mc_tear::{Erasing, Reading, readings_law};
 use mc_vectors::Digests;
 use std::alloc::{AllocError, Global};
 use std::collections::BTreeSet;
@@ -366,6 +366,7 @@ pub fn find_losses<F: Flash + Drop>(
     ensures whole { IfOk result (λ found. found.whole ≡ true
         → AreLostCases erasing (begun start.now) AnyLosses found.cases.items) }
 {
+    readings_law();
     let mut search = Search::new(alloc, erasing);
     search.begin::<F>(start)?;
     for index in 0..usize::MAX {

@@ -20,7 +20,7 @@ returns-in_default-clause-cases g c =
     let x = begun c.args.start.now in
     let cases : List LostCase = c.loop-index.search.cases.items in
     let all : length cases ≤ c.loop-index.index = omega (arith, c.in_default.ensures.lookup.3, ap (λ (l : List LostCase). length l) c.deref.ensures.value) in
-    subst (AreLostCases e x (AtMost c.args.bound)) (sym c.found.ensures.cases) (are_cases e x c.args.bound cases c.loop-index.index c.loop-index.invariant.search all)
+    subst (AreLostCases e x (AtMost c.args.bound)) (sym c.found.ensures.cases) (are_cases e x c.args.bound cases c.loop-index.index c.loop-index.invariant.search all c.readings_law.ensures.chain)
 
 pub returns-in_default-clause-whole : goal.returns-in_default-clause-whole
 returns-in_default-clause-whole g c whole =
@@ -28,7 +28,8 @@ returns-in_default-clause-whole g c whole =
     let x = begun c.args.start.now in
     let cases : List LostCase = c.loop-index.search.cases.items in
     let all : length cases ≤ c.loop-index.index = omega (arith, c.in_default.ensures.lookup.3, ap (λ (l : List LostCase). length l) c.deref.ensures.value) in
-    subst (AreLostCases e x AnyLosses) (sym c.found.ensures.cases) (are_all e x c.args.bound cases c.loop-index.index c.loop-index.invariant.search all (c.found.ensures.whole whole))
+    subst (AreLostCases e x AnyLosses) (sym c.found.ensures.cases)
+    (are_all e x c.args.bound cases c.loop-index.index c.loop-index.invariant.search all c.readings_law.ensures.chain (c.found.ensures.whole whole))
 
 -- The case is one of the search.
 there : (g : Over) (c : In-Some g) → Contains c.loop-index.search.cases.items c.in-Some.case.now
