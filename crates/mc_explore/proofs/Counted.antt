@@ -91,7 +91,7 @@ module _ {C K R U : Type 0} {x : Subject C K R U} {laws : IsLawful (rows_of x)} 
 pub surveyed_whole : (e : Expectation) (old new : rows_of_schedules.State) (limit : ℕ) (tally : Tally) (rights : RightsOf (List ℕ)) → SurveysRows subject e None old new limit tally rights
     → Surveys old new limit tally
 surveyed_whole e old new limit tally rights (page, taken, is, _) =
-    let w = whole_taken schedules old new limit page taken in
+    let w = (whole_taken schedules old new limit page taken).0 in
     record { rows = w.rows; rest = w.rest; tally_is = is ∙ ap tally_of w.page_is; left = w.left; past = w.past }
 
 -- Whether each of some rows ends in a boot, by their tally.

@@ -1,9 +1,10 @@
 -- A page, as its lines are written one after another.
-use Rattle.std.specs.{Prelude.{flat_map, Bool, true, false, ◌∷◌, ◌<◌, ◌≤◌}, Io.KnownBytes.{Appends}}
+use Rattle.std.specs.{Prelude.{All, Contains, flat_map, Bool, true, false, ◌∷◌, ◌<◌, ◌≤◌}, Io.KnownBytes.{Appends}}
 use Rattle.std.proofs.Common.{◌≡◌, ℕ, suc, ◌+◌, List, [], ◌++◌, length, take, drop, Some, None, Option, refl, sym, ap, subst, ◌∙◌, append_assoc, append-nil, arith, inl, inr}
+use Rattle.std.proofs.lemmas.List.Elements.{All-contains_itself, All-weaker}
 use Rattle.std.proofs.{lemmas.List.{take_at, take-append-drop}, lemmas.List.Concat.{flat_map-append}, Math.Seq.{take-append-add}, KnownBytes.{Appends-trans}}
 use Rattle.mc_tree.specs.Tree.{last_key, After}
-use Rattle.mc_explore.specs.Pages.{Listing, IsLawful, TakesPage, ShownIsOut, ShownBegan, FindsBefore, RowBegan, WritesRow, page_at, page_text, last_line, row_line}
+use Rattle.mc_explore.specs.Pages.{Listing, IsLawful, IsRest, TakesPage, ShownIsOut, ShownBegan, FindsBefore, RowBegan, WritesRow, page_at, page_text, last_line, row_line}
 use Rattle.mc_explore.proofs.PageRows.{AreSoFar, cursor_is, next_of, none_so_far, one_more, page_short, page_full, page_with, some_shown}
 use Rattle.mc_output.specs.Text.{AppendsPrefix}
 
@@ -53,18 +54,24 @@ module _ {S K R C : Type 0} (l : Listing S K R C) (laws : IsLawful l) (until : O
 
 module _ {S K R C : Type 0} (l : Listing S K R C) (until : Option K) (old : S) (limit : ℕ) (before : Option (List ℕ)) where
   module _ (new : S) (full : Bool) (some : List R) (mid after : Option (List ℕ)) (line : List ℕ) (taken : TakesPage l until old new limit (page_with l old some full))
-      (is : line ≡ last_line l (page_with l old some full).goes_on) (p : Appends before mid (lines l some)) where
+      (is : line ≡ last_line l (page_with l old some full).goes_on) (restarts : All (l.Restarts old) taken.of.rows) (p : Appends before mid (lines l some)) where
     -- The last line is out.
     pub page_out : Appends mid after line → ShownIsOut l until old new limit before after
     page_out q =
-        record { page = page_with l old some full; taken = taken; out = subst (λ z. Appends before after (lines l some ++ z)) is (Appends-trans before mid after (lines l some) line p q) }
+        record {
+          page = page_with l old some full;
+          taken = taken;
+          restarts = restarts;
+          out = subst (λ z. Appends before after (lines l some ++ z)) is
+              (Appends-trans before mid after (lines l some) line p q);
+        }
 
     -- A prefix of it is.
     pub page_began : AppendsPrefix mid after line → ShownBegan l until old limit before after
     page_began q =
         let page : List ℕ = page_text l (page_at l old limit taken.of.shown) in
         let text : page ≡ lines l some ++ (line ++ []) = sym (ap (page_text l) taken.page_is) ∙ ap (λ z. lines l some ++ z) (sym is ∙ sym (append-nil line)) in
-        record { of = taken.of; out = prefix_of before mid after page (lines l some) line [] text p q }
+        record { of = taken.of; restarts = restarts; out = prefix_of before mid after page (lines l some) line [] text p q }
 
 pub page_begin : {S K R C : Type 0} (l : Listing S K R C) (laws : IsLawful l) (until : Option K) (old : S) (limit : ℕ) (out : Option (List ℕ))
     → AreOut l laws until old limit out old limit out
@@ -73,13 +80,20 @@ page_begin l laws until old limit out =
 
 module _ {S K R C : Type 0} {l : Listing S K R C} {laws : IsLawful l} {until : Option K} {old : S} {limit : ℕ} {before : Option (List ℕ)}
     {now : S} {room : ℕ} {after : Option (List ℕ)} (p : AreOut l laws until old limit before now room after) where
+  -- The restart theorem, for each row to come.
+  abbrev Law : Type 0
+  Law = (row : R) → l.IsRow old row → l.Restarts old row
+
+  all_restart : Law → (rows : List R) → IsRest l old rows → All (l.Restarts old) rows
+  all_restart law rows rest = All-weaker (Contains rows) (l.Restarts old) (λ row there. law row (rest.only row there).0) rows (All-contains_itself rows)
+
   -- Nothing of the next line is out.
-  pub began_before : ShownBegan l until old limit before after
-  began_before =
+  pub began_before : Law → ShownBegan l until old limit before after
+  began_before law =
       let of = some_shown l laws until old in
       let q = p.so_far of in
       let text = known_text l old limit room p.some q.left.shown of.shown q.shown_are q.room_is in
-      record { of = of; out = prefix_none before after (page_text l (page_at l old limit of.shown)) (lines l p.some) _ text p.out }
+      record { of = of; restarts = all_restart law of.rows of.rest; out = prefix_none before after (page_text l (page_at l old limit of.shown)) (lines l p.some) _ text p.out }
 
   module _ (k : ℕ) (is : room ≡ suc k) where
     -- One row more.
@@ -96,8 +110,9 @@ module _ {S K R C : Type 0} {l : Listing S K R C} {laws : IsLawful l} {until : O
         }
 
     -- A prefix of its line is out.
-    pub began_in_row : (new : S) (more : Option (List ℕ)) (row : R) → FindsBefore l until now (Some row) new → AppendsPrefix after more (row_line l row) → ShownBegan l until old limit before more
-    began_in_row new more row (found, shows, moved) a =
+    pub began_in_row : Law → (new : S) (more : Option (List ℕ)) (row : R) → FindsBefore l until now (Some row) new → AppendsPrefix after more (row_line l row)
+        → ShownBegan l until old limit before more
+    began_in_row law new more row (found, shows, moved) a =
         let of = some_shown l laws until old in
         let q = p.so_far of in
         let n = next_of l laws until old limit now room p.some p.so_far row q.left found shows in
@@ -109,33 +124,33 @@ module _ {S K R C : Type 0} {l : Listing S K R C} {laws : IsLawful l} {until : O
         known_text l old limit room p.some q.left.shown of.shown q.shown_are q.room_is
         ∙ ap (λ z. lines l p.some ++ (z ++ last)) next
         ∙ ap (λ z. lines l p.some ++ z) (append_assoc (row_line l row) others last) in
-        record { of = of; out = prefix_of before after more page (lines l p.some) (row_line l row) (others ++ last) text p.out a }
+        record { of = of; restarts = all_restart law of.rows of.rest; out = prefix_of before after more page (lines l p.some) (row_line l row) (others ++ last) text p.out a }
 
     -- The line of the next row was written, or a prefix of it, or nothing.
     pub page_written : (new : S) (more : Option (List ℕ)) → WritesRow l until now true new after more → AreOut l laws until old limit before new k more
-    page_written new more (row, f, a) = page_on new more row f a
+    page_written new more (row, f, restarts, a) = page_on new more row f a
 
-    pub row_began : (more : Option (List ℕ)) → RowBegan l until now after more → ShownBegan l until old limit before more
-    row_began more (inl same) = subst (ShownBegan l until old limit before) (sym same) began_before
-    row_began more (inr (row, new, f, a)) = began_in_row new more row f a
+    pub row_began : Law → (more : Option (List ℕ)) → RowBegan l until now after more → ShownBegan l until old limit before more
+    row_began law more (inl same) = subst (ShownBegan l until old limit before) (sym same) (began_before law)
+    row_began law more (inr (row, new, f, restarts, a)) = began_in_row law new more row f a
 
     -- Where no further row is shown, the last line says so: it is out, or a prefix of it.
-    module _ (new : S) (none : FindsBefore l until now None new) (out : Option (List ℕ)) where
+    module _ (law : Law) (new : S) (none : FindsBefore l until now None new) (out : Option (List ℕ)) where
       end_taken : TakesPage l until old new limit (page_with l old p.some false)
       end_taken = page_short l laws until old limit now room p.some p.so_far k is new none
 
       pub end_out : Appends after out (last_line l None) → ShownIsOut l until old new limit before out
-      end_out = page_out l until old limit before new false p.some after out _ end_taken refl p.out
+      end_out = page_out l until old limit before new false p.some after out _ end_taken refl (all_restart law end_taken.of.rows end_taken.of.rest) p.out
 
       pub end_began : AppendsPrefix after out (last_line l None) → ShownBegan l until old limit before out
-      end_began = page_began l until old limit before new false p.some after out _ end_taken refl p.out
+      end_began = page_began l until old limit before new false p.some after out _ end_taken refl (all_restart law end_taken.of.rows end_taken.of.rest) p.out
 
   -- Where the page is full, the last line goes on after its last row: it is out, or a prefix of it.
   module _ (full : room ≡ 0) where
     pub last_index : 1 ≤ limit → l.position now ≡ After (last_key l.key l.no_key p.some)
     last_index some = let q = p.so_far (some_shown l laws until old) in p.last_is (omega (arith, some, full, q.room_is))
 
-    module _ (out : Option (List ℕ)) where
+    module _ (law : Law) (out : Option (List ℕ)) where
       full_taken : TakesPage l until old now limit (page_with l old p.some true)
       full_taken = page_full l laws until old limit now room p.some p.so_far full
 
@@ -146,7 +161,7 @@ module _ {S K R C : Type 0} {l : Listing S K R C} {laws : IsLawful l} {until : O
       next_is = ap (last_line l) (cursor_is l laws until old limit now room p.some p.so_far _ refl)
 
       pub full_out : Appends after out next → ShownIsOut l until old now limit before out
-      full_out = page_out l until old limit before now true p.some after out next full_taken next_is p.out
+      full_out = page_out l until old limit before now true p.some after out next full_taken next_is (all_restart law full_taken.of.rows full_taken.of.rest) p.out
 
       pub full_began : AppendsPrefix after out next → ShownBegan l until old limit before out
-      full_began = page_began l until old limit before now true p.some after out next full_taken next_is p.out
+      full_began = page_began l until old limit before now true p.some after out next full_taken next_is (all_restart law full_taken.of.rows full_taken.of.rest) p.out

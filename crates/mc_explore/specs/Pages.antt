@@ -11,6 +11,8 @@ pub record Listing (S K R C : Type 0) : Type 1 where
   pub key : R → K
   pub Before : K → K → Type 0
   pub row_text : R → List ℕ
+  -- what the restart theorem says of a row
+  pub Restarts : S → R → Type 0
   -- where one has come to in a state, and the state after the row of that key
   pub position : S → Position K
   pub moved_to : S → K → S
@@ -83,10 +85,11 @@ module _ {S K R C : Type 0} (l : Listing S K R C) where
   state_past state (suc room) [] = state
   state_past state (suc room) (row ∷ rows) = state_past (l.moved_to state (l.key row)) room rows
 
-  -- The page of the rows to come is out, of which there is one list, and its rows are taken.
+  -- The page of the rows to come is out, of which there is one list, and its rows are taken. The restart theorem holds of each.
   pub record PageIsOut (old new : S) (limit : ℕ) (before after : Option (List ℕ)) : Type 0 where
     pub rows : List R
     pub rest : IsRest l old rows
+    pub restarts : All (l.Restarts old) rows
     pub out : Appends before after (page_text (page_at old limit rows))
     pub left : IsRest l new (drop limit rows)
     pub past : new ≡ state_past old limit rows
@@ -95,6 +98,7 @@ module _ {S K R C : Type 0} (l : Listing S K R C) where
   pub record PageBegan (old : S) (limit : ℕ) (before after : Option (List ℕ)) : Type 0 where
     pub rows : List R
     pub rest : IsRest l old rows
+    pub restarts : All (l.Restarts old) rows
     pub out : AppendsPrefix before after (page_text (page_at old limit rows))
 
   -- ---- a page of the rows before a key
@@ -130,15 +134,17 @@ module _ {S K R C : Type 0} (l : Listing S K R C) where
     pub left : IsRest l new (drop (rows_taken limit of.shown) of.rows)
     pub past : new ≡ state_past old (rows_taken limit of.shown) of.rows
 
-  -- And the page is out.
+  -- And the page is out. The restart theorem holds of each row to come.
   pub record ShownIsOut (until : Option K) (old new : S) (limit : ℕ) (before after : Option (List ℕ)) : Type 0 where
     pub page : Page R C
     pub taken : TakesPage until old new limit page
+    pub restarts : All (l.Restarts old) taken.of.rows
     pub out : Appends before after (page_text page)
 
   -- A beginning of that page is out.
   pub record ShownBegan (until : Option K) (old : S) (limit : ℕ) (before after : Option (List ℕ)) : Type 0 where
     pub of : Shown until old
+    pub restarts : All (l.Restarts old) of.rows
     pub out : AppendsPrefix before after (page_text (page_at old limit of.shown))
 
   -- The next row that is shown. There is none where none is past the position, or where the next row, which is taken all the same,
@@ -149,12 +155,14 @@ module _ {S K R C : Type 0} (l : Listing S K R C) where
       (FindsRow l old None × (new ≡ old))
       ⊎ ((row : R) × FindsRow l old (Some row) × (IsBefore until (l.key row) → ⊥) × (new ≡ l.moved_to old (l.key row)))
 
-  -- Its line is out; or there is none, and nothing is out.
+  -- Its line is out, and the restart theorem holds of it; or there is none, and nothing is out.
   abbrev pub WritesRow : Option K → S → Bool → S → Option (List ℕ) → Option (List ℕ) → Type 0
-  WritesRow until old true new before after = (row : R) × FindsBefore until old (Some row) new × Appends before after (row_line row)
+  WritesRow until old true new before after =
+      (row : R) × FindsBefore until old (Some row) new × l.Restarts old row × Appends before after (row_line row)
   WritesRow until old false new before after = FindsBefore until old None new × (after ≡ before)
 
   -- A prefix of its line is out, or nothing.
   abbrev pub RowBegan : Option K → S → Option (List ℕ) → Option (List ℕ) → Type 0
   RowBegan until old before after =
-      (after ≡ before) ⊎ ((row : R) × (new : S) × FindsBefore until old (Some row) new × AppendsPrefix before after (row_line row))
+      (after ≡ before)
+      ⊎ ((row : R) × (new : S) × FindsBefore until old (Some row) new × l.Restarts old row × AppendsPrefix before after (row_line row))

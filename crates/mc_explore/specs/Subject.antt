@@ -135,6 +135,7 @@ module _ {C K R U : Type 0} (x : Subject C K R U) where
     key = x.key;
     Before = x.Before;
     row_text = x.row_text;
+    Restarts = λ state row. x.Restarts state.start state.choice row;
     position = λ state. state.position;
     moved_to = moved_to;
     cursor = λ state. x.cursor state.start state.choice state.bound;

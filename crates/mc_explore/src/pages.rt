@@ -33,6 +33,7 @@ fn write_lines<F: Flash + Drop, X: Subject, W: Write>(
     ensures err { IfErr result (λ e. (e ≡ ExploreError.Memory) ⊎ (e ≡ ExploreError.Failed)
         ⊎ (e ≡ ExploreError.Write)) }
 {
+    explorer.restarts();
     let mut room = limit;
     'fill: while room > 0 {
         if !explorer.write_next_row(until, writer)? {

@@ -180,6 +180,15 @@ impl<'a, F: Flash + Drop, X: Subject> TreeExplorer<'a, F, X> {
         })
     }
 
+    /// What the restart theorem says of each row.
+    #[inline]
+    pub(crate) fn restarts(&self)
+        ensures { let rows = rows_of X.subject in let s = self.now.state in
+            (row : X.Shown) → rows.IsRow s row → rows.Restarts s row }
+    {
+        self.rows.flash_tree().restarts();
+    }
+
     /// The next row, and none where there is no further one.
     ///
     /// # Errors
@@ -282,6 +291,7 @@ impl<'a, F: Flash + Drop, X: Subject> TreeExplorer<'a, F, X> {
         ensures err { IfErr result (λ e. (e ≡ ExploreError.Memory) ⊎ (e ≡ ExploreError.Failed)
             ⊎ (e ≡ ExploreError.Write)) }
     {
+        self.restarts();
         let counted_up = self.rows.next()?;
         let Some(row) = self.rows.row() else {
             self.line.clear();

@@ -53,24 +53,32 @@ module _ {S K R C : Type 0} (l : Listing S K R C) where
     pub left : IsRest l new (drop limit rows)
     pub past : new ≡ state_past l old limit rows
 
-  pub whole_taken : (old new : S) (limit : ℕ) (page : Page R C) → TakesPage l None old new limit page → Whole old new limit page
+  pub whole_taken : (old new : S) (limit : ℕ) (page : Page R C) → (t : TakesPage l None old new limit page) → (w : Whole old new limit page) × (w.rows ≡ t.of.rows)
   whole_taken old new limit page t =
       let all = all_shown t.of.rows t.of.shown t.of.are in
       let taken = taken_all old limit t.of.rows in
-      record {
+      let w : Whole old new limit page = record {
         rows = t.of.rows;
         rest = t.of.rest;
         page_is = t.page_is ∙ ap (λ z. page_at l old limit z) (sym all);
         left = subst (IsRest l new) (ap (λ z. drop (rows_taken l limit z) t.of.rows) (sym all) ∙ taken.1) t.left;
         past = t.past ∙ ap (λ z. state_past l old (rows_taken l limit z) t.of.rows) (sym all) ∙ taken.0;
-      }
+      } in
+      (w, refl)
 
   pub whole_page : (old new : S) (limit : ℕ) (before after : Option (List ℕ)) → ShownIsOut l None old new limit before after → PageIsOut l old new limit before after
   whole_page old new limit before after s =
       let w = whole_taken old new limit s.page s.taken in
-      record { rows = w.rows; rest = w.rest; out = subst (λ z. Appends before after (page_text l z)) w.page_is s.out; left = w.left; past = w.past }
+      record {
+        rows = w.0.rows;
+        rest = w.0.rest;
+        restarts = subst (All (l.Restarts old)) (sym w.1) s.restarts;
+        out = subst (λ z. Appends before after (page_text l z)) w.0.page_is s.out;
+        left = w.0.left;
+        past = w.0.past;
+      }
 
   pub whole_began : (old : S) (limit : ℕ) (before after : Option (List ℕ)) → ShownBegan l None old limit before after → PageBegan l old limit before after
   whole_began old limit before after s =
       let all = all_shown s.of.rows s.of.shown s.of.are in
-      record { rows = s.of.rows; rest = s.of.rest; out = subst (λ z. AppendsPrefix before after (page_text l (page_at l old limit z))) (sym all) s.out }
+      record { rows = s.of.rows; rest = s.of.rest; restarts = s.restarts; out = subst (λ z. AppendsPrefix before after (page_text l (page_at l old limit z))) (sym all) s.out }

@@ -7,17 +7,17 @@ use Rattle.mc_explore.proofs.pages.write_lines.Goals as goal
 pub returns-in_err-write_next_row-clause-began : goal.returns-in_err-write_next_row-clause-began
 returns-in_err-write_next_row-clause-began g c =
     let p = err_from_is_err_and c.from_residual.result c.from_residual.ensures.1 in
-    rw p.1 (row_began c.fill.invariant.page (c.fill.room - 1) (omega arith) _ c.in_err-write_next_row.ensures.began)
+    rw p.1 (row_began c.fill.invariant.page (c.fill.room - 1) (omega arith) c.restarts.ensures _ c.in_err-write_next_row.ensures.began)
 
 pub returns-then-not-branch-clause-page : goal.returns-then-not-branch-clause-page
 returns-then-not-branch-clause-page g c =
     let none = rw c.if-not-branch.true at c.in_ok-write_next_row.ensures.writes in
-    on_ok c.write_text.result _ _ (end_out c.fill.invariant.page (c.fill.room - 1) (omega arith) _ none.0 _) (rw none.1 at c.write_text.ensures.whole)
+    on_ok c.write_text.result _ _ (end_out c.fill.invariant.page (c.fill.room - 1) (omega arith) c.restarts.ensures _ none.0 _) (rw none.1 at c.write_text.ensures.whole)
 
 pub returns-then-not-branch-clause-began : goal.returns-then-not-branch-clause-began
 returns-then-not-branch-clause-began g c =
     let none = rw c.if-not-branch.true at c.in_ok-write_next_row.ensures.writes in
-    on_err c.write_text.result _ _ (end_began c.fill.invariant.page (c.fill.room - 1) (omega arith) _ none.0 _) (rw none.1 at c.write_text.ensures.prefix)
+    on_err c.write_text.result _ _ (end_began c.fill.invariant.page (c.fill.room - 1) (omega arith) c.restarts.ensures _ none.0 _) (rw none.1 at c.write_text.ensures.prefix)
 
 pub fill-preserved : goal.fill-preserved
 fill-preserved g c =
@@ -39,9 +39,9 @@ fill-preserved g c =
 pub returns-clause-page : goal.returns-clause-page
 returns-clause-page g c =
     let none : c.fill.room ≡ 0 = omega arith in
-    on_ok c.write_next.result _ _ (full_out c.fill.invariant.page none _) (c.write_next.ensures.whole _ (last_index c.fill.invariant.page none c.requires))
+    on_ok c.write_next.result _ _ (full_out c.fill.invariant.page none c.restarts.ensures _) (c.write_next.ensures.whole _ (last_index c.fill.invariant.page none c.requires))
 
 pub returns-clause-began : goal.returns-clause-began
 returns-clause-began g c =
     let none : c.fill.room ≡ 0 = omega arith in
-    on_err c.write_next.result _ _ (full_began c.fill.invariant.page none _) (c.write_next.ensures.prefix _ (last_index c.fill.invariant.page none c.requires))
+    on_err c.write_next.result _ _ (full_began c.fill.invariant.page none c.restarts.ensures _) (c.write_next.ensures.prefix _ (last_index c.fill.invariant.page none c.requires))

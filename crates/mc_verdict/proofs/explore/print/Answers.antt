@@ -8,5 +8,5 @@ returns-in-Ok g c =
       explorer = c.in_ok-explorer.explorer;
       begins = c.in_ok-explorer.ensures;
       new = _;
-      out = record { page = page.page; taken = page.taken; out = appended _ _ _ _ _ c.in_ok-blocks.ensures page.out c.in-Ok.ensures };
+      out = record { page = page.page; taken = page.taken; restarts = page.restarts; out = appended _ _ _ _ _ c.in_ok-blocks.ensures page.out c.in-Ok.ensures };
     }

@@ -66,7 +66,13 @@ returns-in_err-write_text-clause-began g c =
     let p = err_from_is_err_and c.from_residual-in_err-write_text.result c.from_residual-in_err-write_text.ensures.1 in
     let text = c.as_slice.ensures.value ∙ (turned g a.After-turn_to a.In_ok-counted_up).0 in
     let before = c.comes_before.ensures.0 c.if-not-comes_before.false in
-    rw p.1 (rw (sym c.self.view_is) (inr (row, _, (first_row _ _ _ _ _ _ _ _ _ _ _ _ _ row f, before, refl), rw text at c.in_err-write_text.ensures.prefix)))
+    rw p.1 (rw (sym c.self.view_is) (inr (
+      row,
+      _,
+      (first_row _ _ _ _ _ _ _ _ _ _ _ _ _ row f, before, refl),
+      (rw (sym c.self.view_is) at c.restarts.ensures) row (first_row _ _ _ _ _ _ _ _ _ _ _ _ _ row f).is_row,
+      rw text at c.in_err-write_text.ensures.prefix,
+    )))
 
 pub invariant_of-self-2 : goal.invariant_of-self-2
 invariant_of-self-2 g c =
@@ -86,4 +92,9 @@ returns-clause-writes g c =
     let text = c.as_slice.ensures.value ∙ (turned g a.After-turn_to a.In_ok-counted_up).0 in
     let before = c.comes_before.ensures.0 c.if-not-comes_before.false in
     let moved = moved_on _ _ _ _ _ _ _ _ _ _ _ _ _ row f c.key-self-inside.result c.key-self-inside.ensures in
-    rw (sym c.self.view_is) (row, (first_row _ _ _ _ _ _ _ _ _ _ _ _ _ row f, before, moved), rw text at c.in_ok-write_text.ensures.whole)
+    rw (sym c.self.view_is) (
+      row,
+      (first_row _ _ _ _ _ _ _ _ _ _ _ _ _ row f, before, moved),
+      (rw (sym c.self.view_is) at c.restarts.ensures) row (first_row _ _ _ _ _ _ _ _ _ _ _ _ _ row f).is_row,
+      rw text at c.in_ok-write_text.ensures.whole,
+    )
