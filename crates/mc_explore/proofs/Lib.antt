@@ -9,6 +9,7 @@ mod Onwards
 mod PageRows
 mod PageText
 mod Passing
+mod Preceding
 mod Restarts
 mod Runs
 mod TornPages

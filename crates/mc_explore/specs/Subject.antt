@@ -45,18 +45,19 @@ pub record State (C K : Type 0) : Type 0 where
   pub position : Position K
   pub failed : Bool
 
--- The state after the row of a key, at the start, and after a key.
+-- The state after the row of a key; that at a position, at the start, and after a key.
 abbrev pub moved_to : {C K : Type 0} → State C K → K → State C K
 moved_to state k =
     record { start = state.start; choice = state.choice; bound = state.bound; position = After k; failed = state.failed }
 
+abbrev pub state_at : {C K : Type 0} → PowerOn → C → ℕ → Position K → State C K
+state_at start choice bound position = record { start = start; choice = choice; bound = bound; position = position; failed = false }
+
 abbrev pub at_start : {C K : Type 0} → PowerOn → C → ℕ → State C K
-at_start start choice bound =
-    record { start = start; choice = choice; bound = bound; position = AtStart; failed = false }
+at_start start choice bound = state_at start choice bound AtStart
 
 abbrev pub after_key : {C K : Type 0} → PowerOn → C → ℕ → K → State C K
-after_key start choice bound k =
-    record { start = start; choice = choice; bound = bound; position = After k; failed = false }
+after_key start choice bound k = state_at start choice bound (After k)
 
 -- What callers see of an explorer: its state; the content of its flash and the usage; and how many contents are marked there.
 pub record Explored (C K : Type 0) : Type 0 where
@@ -95,6 +96,18 @@ module _ {C K R U : Type 0} (x : Subject C K R U) where
   abbrev pub GoesOnBeyond : PowerOn → C → ℕ → K → Result (Explored C K) ExploreError → Type 0
   GoesOnBeyond start choice bound k (Ok explorer) = x.IsListed start choice bound k × (explorer.state ≡ after_key start choice bound k)
   GoesOnBeyond start choice bound k (Err e) = (e ≡ errors.Memory) ⊎ ((e ≡ errors.CannotOccur) × (x.IsListed start choice bound k → ⊥))
+
+  -- The position at which a key comes next: after the key before it, or at the start.
+  abbrev pub IsPlaceBefore : PowerOn → C → ℕ → K → Position K → Type 0
+  IsPlaceBefore start choice bound k AtStart = IsNext (at_start start choice bound) k
+  IsPlaceBefore start choice bound k (After last) = x.IsListed start choice bound last × IsNext (after_key start choice bound last) k
+  IsPlaceBefore start choice bound k Lost = ⊥
+
+  -- An explorer stands where a key comes next; or that is none of those to go through; or an allocation failed.
+  abbrev pub StandsBefore : PowerOn → C → ℕ → K → Result (Explored C K) ExploreError → Type 0
+  StandsBefore start choice bound k (Ok explorer) =
+      (position : Position K) × IsPlaceBefore start choice bound k position × (explorer.state ≡ state_at start choice bound position)
+  StandsBefore start choice bound k (Err e) = (e ≡ errors.Memory) ⊎ ((e ≡ errors.CannotOccur) × (x.IsListed start choice bound k → ⊥))
 
   -- So many operations for a call that finds one, and none for a call that finds none.
   abbrev pub row_cost : State C K → Option R → ℕ

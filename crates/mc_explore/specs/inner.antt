@@ -9,4 +9,5 @@ pub mod Runs
 pub mod Table
 pub mod View
 pub mod Exploring
+pub mod Before
 pub mod Lines

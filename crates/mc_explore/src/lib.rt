@@ -3,6 +3,7 @@
 
 mod ahead;
 mod at_cuts;
+mod before;
 mod boot_ends;
 mod boot_tree;
 mod census;

@@ -6,8 +6,9 @@ ghost use Rattle.mc_explore.specs.Pages.{FindsBefore, IsBefore, RowBegan, Writes
 ghost use Rattle.mc_flash.specs.Usage.{limits_for};
 ghost use Rattle.mc_start.specs.Start.{begun};
 ghost use Rattle.mc_tree.specs.Tree.{After, Lost};
-ghost use Rattle.mc_explore.specs.Subject.{Resumes, Explores, Finds, GoesOnBeyond, LeavesExplorer, Restarts, at_start, row_cost, rows_of, state_after};
+ghost use Rattle.mc_explore.specs.Subject.{Resumes, Explores, Finds, GoesOnBeyond, LeavesExplorer, Restarts, StandsBefore, at_start, row_cost, rows_of, state_after};
 
+use crate::before::key_before;
 use crate::error::ExploreError;
 use crate::labels::Labels;
 use crate::output::write_text;
@@ -127,6 +128,30 @@ impl<'a, F: Flash + Drop, X: OfStart<'a>> TreeExplorer<'a, F, X> {
             labels: Labels::of(start),
             line: RowLine::new(),
         })
+    }
+
+    /// An explorer that begins with a key: its row comes next. It goes along two paths before, that of the key and that of the one
+    /// before it, each over a flash of its own, and then takes memory as one at the start does.
+    ///
+    /// # Errors
+    ///
+    /// `CannotOccur` where it is none of the keys to go through; `Memory`.
+    pub fn before(
+        alloc: Global,
+        start: &'a Start,
+        bound: u8,
+        choice: X::Choice,
+        key: &X::Key,
+    ) -> Result<TreeExplorer<'a, F, X>, ExploreError>
+        requires { bound ≤ 16 }
+        ensures stands { StandsBefore X.subject (begun start.now) choice bound key.now result }
+        ensures exact { IfOk result (λ explorer. F.counted ≡ true → explorer.usage.limits
+            ≡ limits_for start.now.rules.grain start.now.geometry (bound + X.more)) }
+    {
+        match key_before::<F, X>(alloc, start, bound, choice, key)? {
+            Some(last) => TreeExplorer::after(alloc, start, bound, choice, &last),
+            None => TreeExplorer::start(alloc, start, bound, choice),
+        }
     }
 
     /// An explorer that goes on after the key of a cursor, straight down along its path. It takes memory as one at the start

@@ -12,35 +12,59 @@ use mc_start::Start;
 use mc_walk::Walk;
 use std::alloc::{AllocError, Global};
 
-/// Loads the flash of a start for so many boots, for a walk from there along paths of at most so many steps.
+/// Loads the flash of a start for so many boots, for a walk through its tree along paths of at most so many steps.
 ///
 /// # Errors
 ///
 /// Where an allocation failed.
-pub fn load_for<'a, F: Flash, X: OfStart<'a>>(
+pub fn load_for<F: Flash, X: Subject>(
     alloc: Global,
-    start: &'a Start,
+    start: &Start,
+    flash_tree: X,
     bound: u8,
-    choice: X::Choice,
     boots: u32,
 ) -> Result<Walk<F, X>, AllocError>
-    requires { (bound + X.more ≤ boots) × (boots ≤ 32) }
+    requires boots { (bound + X.more ≤ boots) × (boots ≤ 32) }
+    requires start { X.begins flash_tree ≡ begun start.now }
     ensures loaded { IfOk result (IsLoaded X.model X.begins X.choice F.counted (begun start.now)
-        choice bound) }
+        (X.choice flash_tree) bound) }
+    ensures tree { IfOk result (λ walk. walk.flash_tree ≡ flash_tree) }
     ensures exact { IfOk result (λ walk. F.counted ≡ true → walk.seen.usage.limits
         ≡ limits_for start.now.rules.grain start.now.geometry boots) }
 {
     let layout = *start.layout();
     // Reading a field gives the prover that it is a layout.
     let _sector = layout.sector();
-    let flash_tree = X::of(start, choice);
     let grain = start.rules().grain;
     let (primary, secondary) = (start.primary(), start.secondary());
     let flash = F::load(alloc, &layout, grain, primary, secondary, boots)?;
     Walk::start(alloc, flash_tree, usize::from(bound), flash)
 }
 
-/// Loads the flash of a start for so many boots more than there are steps in a path as the subject says, for a walk from there.
+/// The same, for so many boots more than there are steps in a path as the subject says.
+///
+/// # Errors
+///
+/// Where an allocation failed.
+pub(crate) fn load_tree<F: Flash, X: Subject>(
+    alloc: Global,
+    start: &Start,
+    flash_tree: X,
+    bound: u8,
+) -> Result<Walk<F, X>, AllocError>
+    requires bound { bound ≤ 17 }
+    requires start { X.begins flash_tree ≡ begun start.now }
+    ensures loaded { IfOk result (IsLoaded X.model X.begins X.choice F.counted (begun start.now)
+        (X.choice flash_tree) bound) }
+    ensures tree { IfOk result (λ walk. walk.flash_tree ≡ flash_tree) }
+    ensures exact { IfOk result (λ walk. F.counted ≡ true → walk.seen.usage.limits
+        ≡ limits_for start.now.rules.grain start.now.geometry (bound + X.more)) }
+{
+    let boots = u32::from(bound) + flash_tree.more();
+    load_for(alloc, start, flash_tree, bound, boots)
+}
+
+/// The same, for the tree from that start, under a choice.
 ///
 /// # Errors
 ///
@@ -57,8 +81,7 @@ pub fn load_walk<'a, F: Flash, X: OfStart<'a>>(
     ensures exact { IfOk result (λ walk. F.counted ≡ true → walk.seen.usage.limits
         ≡ limits_for start.now.rules.grain start.now.geometry (bound + X.more)) }
 {
-    let boots = u32::from(bound) + X::of(start, choice).more();
-    load_for(alloc, start, bound, choice, boots)
+    load_tree(alloc, start, X::of(start, choice), bound)
 }
 
 /// Whether a cursor is one of this start, this choice and this bound.
