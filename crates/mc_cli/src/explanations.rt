@@ -349,7 +349,7 @@ static EXPLORATIONS: [Explanation; 13] = [
         number: 58,
         name: "CannotOccur",
         status: 1,
-        when: "The schedule of --cursor or --after has too many cuts, or cannot occur here.",
+        when: "The schedule of --cursor, --after or --from has too many cuts, or cannot occur here.",
         remedy: "Copy it from a page of this very start.",
     },
     Explanation {
@@ -401,7 +401,7 @@ static COMMANDS: [Explanation; 23] = [
         number: 73,
         name: "CursorOptions",
         status: 2,
-        when: "--after and --cursor both tell where to go on.",
+        when: "Two of --cursor, --after and --from tell where to begin.",
         remedy: "Give one of them.",
     },
     Explanation {

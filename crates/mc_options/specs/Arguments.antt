@@ -146,21 +146,26 @@ pub record GivesView (found : Found) (v : View) : Type 0 where
 abbrev pub MayGiveSchedule : Found → List ℕ → Option (List ℕ) → Type 0
 MayGiveSchedule found name schedule = first_value found name ≡ option_map schedule_text schedule
 
--- two options say where to go on
-abbrev pub gives_both : Found → Bool
-gives_both found = is_some (first_value found (codes "cursor")) && is_some (first_value found (codes "after"))
+-- two options or more say where to begin
+abbrev pub gives_two : Found → Bool
+gives_two found =
+    let cursor = is_some (first_value found (codes "cursor")) in
+    let after = is_some (first_value found (codes "after")) in
+    (cursor && after) || (is_some (first_value found (codes "from")) && (cursor || after))
 
--- the arguments say where an exploration goes on, in one way or not at all, and where it stops, by the texts of cursors and keys
+-- the arguments say where an exploration begins, in one way or not at all, and where it stops, by the texts of cursors and keys
 pub record GivesRange {U K : Type 0} (cursor_text : U → List ℕ) (key_text : K → List ℕ) (found : Found) (o : RangeOptions U K) : Type 0 where
   pub cursor : first_value found (codes "cursor") ≡ option_map cursor_text o.cursor
   pub after : first_value found (codes "after") ≡ option_map key_text o.after
+  pub from : first_value found (codes "from") ≡ option_map key_text o.from
   pub until : first_value found (codes "until") ≡ option_map key_text o.until
-  pub one : gives_both found ≡ false
+  pub one : gives_two found ≡ false
 
 -- the cursor and the keys, where there are some, are such that have texts of their own
 pub record HasTexts {U K : Type 0} (IsCursor : U → Type 0) (IsKey : K → Type 0) (o : RangeOptions U K) : Type 0 where
   pub cursor : IfSome o.cursor IsCursor
   pub after : IfSome o.after IsKey
+  pub from : IfSome o.from IsKey
   pub until : IfSome o.until IsKey
 
 -- two options do not give one path

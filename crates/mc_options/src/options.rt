@@ -4,7 +4,7 @@ ghost use Rattle.clap.specs.Matches.{found_of};
 ghost use Rattle.clap.specs.Words.{first_value};
 ghost use Rattle.mc_options.specs.Numbers.{GivesNumber, IsUnit};
 ghost use Rattle.mc_flash.specs.Geometry.{Geometry, refusal_of};
-ghost use Rattle.mc_options.specs.Arguments.{GivesCreate, GivesLayout, Judges, GivesSource, RefusesSource, is_source, kind_text, GivesRules, GivesFlash, GivesExtent, GivesRange, GivesSpan, GivesView, HasTexts, MayGiveTimes, gives_both};
+ghost use Rattle.mc_options.specs.Arguments.{GivesCreate, GivesLayout, Judges, GivesSource, RefusesSource, is_source, kind_text, GivesRules, GivesFlash, GivesExtent, GivesRange, GivesSpan, GivesView, HasTexts, MayGiveTimes, gives_two};
 
 use crate::numbers::NumberOption;
 use crate::refusal::Refusal;
@@ -324,6 +324,8 @@ pub struct RangeOptions<U, K> {
     pub cursor: Option<U>,
     /// Or the key after which it goes on.
     pub after: Option<K>,
+    /// Or the key with which it begins.
+    pub from: Option<K>,
     /// The key before which it stops.
     pub until: Option<K>,
 }
@@ -412,27 +414,38 @@ fn option_of<T: Spelled>(arguments: &ArgMatches<'_>, name: &str) -> Result<Optio
     }
 }
 
-/// Where an exploration goes on, and where it stops. That only one option says where it goes on is checked first.
+/// Whether two options or more say where an exploration begins.
+fn gives_two(arguments: &ArgMatches<'_>) -> bool
+    ensures { result ≡ gives_two (found_of arguments.now) }
+{
+    let cursor = arguments.get_str("cursor").is_some();
+    let after = arguments.get_str("after").is_some();
+    let from = arguments.get_str("from").is_some();
+    (cursor && after) || (from && (cursor || after))
+}
+
+/// Where an exploration begins, and where it stops. That only one option says where it begins is checked first.
 ///
 /// # Errors
 ///
-/// `CursorOptions` where `--after` and `--cursor` are both given; `Cursor`, `Schedule` and `Campaign` where a text is none of what it
-/// is read as.
+/// `CursorOptions` where two of `--cursor`, `--after` and `--from` are given; `Cursor`, `Schedule` and `Campaign` where a text is none
+/// of what it is read as.
 pub fn range_options<U: Spelled, K: Spelled>(
     arguments: &ArgMatches<'_>,
 ) -> Result<RangeOptions<U, K>, Refusal>
     ensures given { IfOk result (GivesRange U.spelling K.spelling (found_of arguments.now)) }
     ensures taken { (o : RangeOptions U K) → HasTexts U.IsSpelled K.IsSpelled o
         → GivesRange U.spelling K.spelling (found_of arguments.now) o → IsOk result }
-    ensures both { gives_both (found_of arguments.now) ≡ true → result
+    ensures two { gives_two (found_of arguments.now) ≡ true → result
         ≡ Err Refusal.CursorOptions }
 {
-    if arguments.get_str("cursor").is_some() && arguments.get_str("after").is_some() {
+    if gives_two(arguments) {
         return Err(Refusal::CursorOptions);
     }
     Ok(RangeOptions {
         cursor: option_of(arguments, "cursor")?,
         after: option_of(arguments, "after")?,
+        from: option_of(arguments, "from")?,
         until: option_of(arguments, "until")?,
     })
 }

@@ -4,7 +4,7 @@ use Rattle.clap.specs.declared.parser.matches.Found.{Found}
 use Rattle.mc_boot.specs.{Plan.{PowerOn}, declared.kind.Kind.{Kind}}
 use Rattle.mc_boot.specs.declared.kind.Kind.TheVariants as starts
 use Rattle.mc_explore.specs.{Census.{IsCensus}, Pages.{ShownIsOut}, Right.{AreRights, SurveysRows}}
-use Rattle.mc_explore.specs.{Subject.{Explored, GoesOnBeyond, Resumes, State, Subject, at_start, rows_of}, declared.error.ExploreError.{ExploreError}}
+use Rattle.mc_explore.specs.{Subject.{Explored, GoesOnBeyond, Resumes, StandsBefore, State, Subject, at_start, rows_of}, declared.error.ExploreError.{ExploreError}}
 use Rattle.mc_explore.specs.declared.error.ExploreError.TheVariants as errors
 use Rattle.mc_explore.specs.declared.expectation.Expectation.{Expectation}
 use Rattle.mc_explore.specs.declared.expectation.Wanted.TheVariants as wanted
@@ -22,9 +22,9 @@ use Rattle.mc_options.specs.declared.refusal.Refusal.TheVariants as refusals
 use Rattle.mc_verdict.specs.declared.verdict.Asked.{Asked}
 
 -- Whether the images of a source lie at the end where they would without the swap, by the kind of its start and what is chosen.
-abbrev pub back_from : {C : Type 0} → (Kind → C → Bool) → Source → C → Bool
-back_from is_back (sources.Flash path) choice = false
-back_from is_back (sources.Images kind a b) choice = is_back kind choice
+abbrev pub images_return : {C : Type 0} → (Kind → C → Bool) → Source → C → Bool
+images_return returns (sources.Flash path) choice = false
+images_return returns (sources.Images kind a b) choice = returns kind choice
 
 -- So it is after two rounds of a test that does not confirm itself.
 abbrev pub is_left_alone : Kind → Bool → Bool
@@ -35,31 +35,32 @@ is_left_alone starts.Revert confirms = false
 
 -- The image that is to lie in the primary at the end, and the one in the secondary.
 abbrev pub ends_of : Bool → Option (Identity × Identity) → Option (Identity × Identity)
-ends_of back None = None
+ends_of images_return None = None
 ends_of true (Some (one, other)) = Some (other, one)
 ends_of false (Some (one, other)) = Some (one, other)
 
 -- The arguments give an exploration: its start, what is chosen, how far it goes, and which rows it gives.
-pub record GivesExploration {C K R U : Type 0} (x : Subject C K R U) (IsChoice : Found → C → Type 0) (is_back : Kind → C → Bool) (found : Found) (e : Exploration C U K) : Type 0 where
+pub record GivesExploration {C K R U : Type 0} (x : Subject C K R U) (IsChoice : Found → C → Type 0) (returns : Kind → C → Bool) (found : Found) (e : Exploration C U K) : Type 0 where
   pub options : FlashOptions
   pub options_given : GivesFlash found options
   pub start : IsStartOf options e.start
   pub choice : IsChoice found e.choice
-  pub back : e.back ≡ back_from is_back options.source e.choice
+  pub images_return : e.images_return ≡ images_return returns options.source e.choice
   pub extent : GivesExtent found e.extent
   pub range : GivesRange x.cursor_text x.key_text found e.range
 
 module _ {C K R U : Type 0} (x : Subject C K R U) (fields : U → Fields C K) where
-  -- An explorer after the key, after that of the cursor, or at the start; or why there is none.
-  abbrev pub Begins : PowerOn → C → ℕ → Option K → Option U → Result (Explored C K) ExploreError → Type 0
-  Begins start choice bound (Some last) cursor made = GoesOnBeyond x start choice bound last made
-  Begins start choice bound None (Some cursor) made = Resumes x start choice bound (fields cursor) made
-  Begins start choice bound None None (Ok explorer) = explorer.state ≡ at_start start choice bound
-  Begins start choice bound None None (Err e) = e ≡ errors.Memory
+  -- An explorer after a key, with a key next, after that of the cursor, or at the start; or why there is none.
+  abbrev pub Begins : PowerOn → C → ℕ → Option K → Option K → Option U → Result (Explored C K) ExploreError → Type 0
+  Begins start choice bound (Some last) from cursor made = GoesOnBeyond x start choice bound last made
+  Begins start choice bound None (Some first) cursor made = StandsBefore x start choice bound first made
+  Begins start choice bound None None (Some cursor) made = Resumes x start choice bound (fields cursor) made
+  Begins start choice bound None None None (Ok explorer) = explorer.state ≡ at_start start choice bound
+  Begins start choice bound None None None (Err e) = e ≡ errors.Memory
 
   -- The explorer of an exploration.
   abbrev pub BeginsAs : Exploration C U K → Result (Explored C K) ExploreError → Type 0
-  BeginsAs e = Begins (begun e.start) e.choice e.extent.cuts e.range.after e.range.cursor
+  BeginsAs e = Begins (begun e.start) e.choice e.extent.cuts e.range.after e.range.from e.range.cursor
 
   -- The explorer that the options give, or why the program has none.
   abbrev pub Explores : Exploration C U K → Result (Explored C K) Refusal → Type 0
@@ -77,7 +78,7 @@ module _ {C K R U : Type 0} (x : Subject C K R U) (fields : U → Fields C K) wh
   -- And only where that is asked, for what the words expect of the slots.
   pub record TalliesAsked (e : Exploration C U K) (a : Asked) (tally : TallyOf U) (shown : Option (RightsOf K)) : Type 0 where
     pub expectation : Option Expectation
-    pub expects : IsExpectation a (ends_of e.back e.start.named) (Ok expectation)
+    pub expects : IsExpectation a (ends_of e.images_return e.start.named) (Ok expectation)
     pub rights : RightsOf K
     pub tallies : TalliesUntil e (unwrap_or expectation (record { primary = wanted.Anything; secondary = wanted.Anything })) tally rights
     pub shown_is : shown ≡ option_map (λ _. rights) expectation
@@ -90,12 +91,12 @@ module _ {C K R U : Type 0} (x : Subject C K R U) (fields : U → Fields C K) wh
     pub out : ShownIsOut (rows_of x) e.range.until explorer.state new e.extent.limit before after
 
 -- The arguments give a census: its start, what is chosen, the most cuts, and what is asked of the rows.
-pub record GivesWanted {C : Type 0} (IsChoice : Found → C → Type 0) (is_back : Kind → C → Bool) (found : Found) (w : Wanted C) : Type 0 where
+pub record GivesWanted {C : Type 0} (IsChoice : Found → C → Type 0) (returns : Kind → C → Bool) (found : Found) (w : Wanted C) : Type 0 where
   pub options : FlashOptions
   pub options_given : GivesFlash found options
   pub start : IsStartOf options w.start
   pub choice : IsChoice found w.choice
-  pub back : w.back ≡ back_from is_back options.source w.choice
+  pub images_return : w.images_return ≡ images_return returns options.source w.choice
   pub cuts : GivesNumber found numbers.Cuts w.cuts
   pub asked : GivesAsked found w.asked
 
@@ -111,5 +112,5 @@ module _ {C K R U : Type 0} (x : Subject C K R U) where
   pub record AreCounts (w : Wanted C) (c : Counts K) : Type 0 where
     pub comes_to : IsCensus x (begun w.start) w.choice w.cuts c.census
     pub expectation : Option Expectation
-    pub expects : IsExpectation w.asked (ends_of w.back w.start.named) (Ok expectation)
+    pub expects : IsExpectation w.asked (ends_of w.images_return w.start.named) (Ok expectation)
     pub rights : AreRightsIf expectation (begun w.start) w.choice w.cuts c.rights

@@ -8,7 +8,7 @@ ghost use Rattle.mc_verdict.specs.Verdicts.{AreCounted, IsVerdict, is_of_slots};
 ghost use Rattle.mc_start.specs.Start.{begun};
 
 use crate::explorable::Explorable;
-use crate::explore::{ends, is_taken_back};
+use crate::explore::{ends, images_return};
 use crate::verdict::{Asked, right_if_asked, write_lines};
 use clap::ArgMatches;
 use mc_explore::{
@@ -28,7 +28,7 @@ pub struct Wanted<C: Copy> {
     /// What is chosen besides the start.
     choice: C,
     /// Whether both images are to lie at the end where they would without the swap.
-    back: bool,
+    images_return: bool,
     cuts: u8,
     asked: Asked,
 }
@@ -72,7 +72,7 @@ pub fn read<X: Explorable, F: Files>(
     alloc: Global,
     arguments: &ArgMatches<'_>,
 ) -> Result<Wanted<X::Choice>, Refusal>
-    ensures given { IfOk result (GivesWanted X.IsChoice X.is_taken_back (found_of arguments.now)) }
+    ensures given { IfOk result (GivesWanted X.IsChoice X.images_return (found_of arguments.now)) }
     ensures range { IfOk result (λ wanted. wanted.cuts ≤ 16) }
 {
     let options = match flash_options(arguments) {
@@ -85,7 +85,7 @@ pub fn read<X: Explorable, F: Files>(
     let choice = X::chosen(arguments);
     Ok(Wanted {
         choice,
-        back: is_taken_back::<X>(&options.source, choice),
+        images_return: images_return::<X>(&options.source, choice),
         cuts,
         asked,
         start: read_start(files, alloc, &options)?,
@@ -98,7 +98,7 @@ impl Wanted<()> {
         ensures { result ≡ record {
           start = start;
           choice = tt;
-          back = false;
+          images_return = false;
           cuts = cuts;
           asked = asked;
         } }
@@ -106,7 +106,7 @@ impl Wanted<()> {
         Wanted {
             start,
             choice: (),
-            back: false,
+            images_return: false,
             cuts,
             asked,
         }
@@ -140,7 +140,9 @@ pub fn count<X: Countable>(
     ensures { IfOk result (AreCounts X.subject wanted.now) }
 {
     let (start, cuts, choice) = (&wanted.start, wanted.cuts, wanted.choice);
-    let expectation = wanted.asked.expectation(ends(wanted.back, start.named()))?;
+    let expectation = wanted
+        .asked
+        .expectation(ends(wanted.images_return, start.named()))?;
     Ok(Counts {
         rights: rights_if::<X>(alloc, start, cuts, choice, &expectation)?,
         census: take_census::<JournalFlash, X>(alloc, start, cuts, choice)?,

@@ -14,7 +14,7 @@ pub trait Explorable: Subject {
 
     ghost IsChoice: { Found → Self.Choice → Type 0 };
 
-    ghost is_taken_back: { StartKind → Self.Choice → Bool };
+    ghost images_return: { StartKind → Self.Choice → Bool };
 
     /// The choice that the options give.
     fn chosen(arguments: &ArgMatches<'_>) -> Self::Choice
@@ -30,8 +30,8 @@ pub trait Explorable: Subject {
             (found_of arguments.now)) };
 
     /// Whether the images of a start of that kind lie at the end where they would without the swap.
-    fn takes_back(kind: Kind, choice: Self::Choice) -> bool
-        ensures { result ≡ is_taken_back kind choice };
+    fn images_return(kind: Kind, choice: Self::Choice) -> bool
+        ensures { result ≡ images_return kind choice };
 }
 
 impl Explorable for OneRound<'_> {
@@ -42,7 +42,7 @@ impl Explorable for OneRound<'_> {
 
     ghost IsChoice = { λ _ _. Unit {0} };
 
-    ghost is_taken_back = { λ _ _. false };
+    ghost images_return = { λ _ _. false };
 
     fn chosen(_arguments: &ArgMatches<'_>)
         ensures { Unit {0} }
@@ -55,7 +55,7 @@ impl Explorable for OneRound<'_> {
         range_options(arguments)
     }
 
-    fn takes_back(_kind: Kind, _choice: ()) -> bool
+    fn images_return(_kind: Kind, _choice: ()) -> bool
         ensures { result ≡ false }
     {
         false
@@ -71,7 +71,7 @@ impl Explorable for TwoRounds<'_> {
 
     ghost IsChoice = { λ found confirms. IsFlag found (codes "confirm") confirms };
 
-    ghost is_taken_back = { is_left_alone };
+    ghost images_return = { is_left_alone };
 
     fn chosen(arguments: &ArgMatches<'_>) -> bool
         ensures { IsFlag (found_of arguments.now) (codes "confirm") result }
@@ -87,7 +87,7 @@ impl Explorable for TwoRounds<'_> {
     }
 
     // A test that does not confirm itself is taken back in the second round.
-    fn takes_back(kind: Kind, confirms: bool) -> bool
+    fn images_return(kind: Kind, confirms: bool) -> bool
         ensures { result ≡ is_left_alone kind confirms }
     {
         matches!(kind, Kind::Test) && !confirms

@@ -6,7 +6,7 @@ ghost use Rattle.clap.specs.Matches.{found_of};
 ghost use Rattle.mc_explore.specs.Pages.{Page};
 ghost use Rattle.mc_explore.specs.Survey.{tally_by, tally_text};
 ghost use Rattle.mc_explore.specs.declared.expectation.Expectation.{Expectation as Expected};
-ghost use Rattle.mc_verdict.specs.Sessions.{Explores, PrintsUntil, TalliesAsked, TalliesUntil, GivesExploration, back_from, ends_of};
+ghost use Rattle.mc_verdict.specs.Sessions.{Explores, PrintsUntil, TalliesAsked, TalliesUntil, GivesExploration, images_return, ends_of};
 ghost use Rattle.mc_verdict.specs.Verdicts.{GivesAsked, AreCounted, IsExpectation, IsVerdict, is_of_slots, is_whole, lines_of};
 ghost use Rattle.mc_boot.specs.Plan.{identity_of};
 
@@ -35,28 +35,28 @@ pub struct Exploration<C: Copy, U: Copy, K: Copy> {
     /// What is chosen besides the start.
     choice: C,
     /// Whether both images are to lie at the end where they would without the swap.
-    back: bool,
+    images_return: bool,
     extent: ExploreOptions,
     range: RangeOptions<U, K>,
 }
 
 /// Whether both images of a source are to lie at the end where they would without the swap.
-pub fn is_taken_back<X: Explorable>(source: &Source<'_>, choice: X::Choice) -> bool
-    ensures { result ≡ back_from X.is_taken_back source.now choice }
+pub fn images_return<X: Explorable>(source: &Source<'_>, choice: X::Choice) -> bool
+    ensures { result ≡ images_return X.images_return source.now choice }
 {
     match source {
         Source::Flash(_) => false,
-        Source::Images { kind, .. } => X::takes_back(*kind, choice),
+        Source::Images { kind, .. } => X::images_return(*kind, choice),
     }
 }
 
 /// The image that is to lie in the primary at the end, and the one in the secondary.
-pub fn ends(back: bool, named: Option<(ImageId, ImageId)>) -> Option<(ImageId, ImageId)>
-    ensures { option_map (λ p. (identity_of p.0, identity_of p.1)) result ≡ ends_of back
+pub fn ends(images_return: bool, named: Option<(ImageId, ImageId)>) -> Option<(ImageId, ImageId)>
+    ensures { option_map (λ p. (identity_of p.0, identity_of p.1)) result ≡ ends_of images_return
         (option_map (λ p. (identity_of p.0, identity_of p.1)) named) }
 {
     match named {
-        Some((one, other)) if back => Some((other, one)),
+        Some((one, other)) if images_return => Some((other, one)),
         named => named,
     }
 }
@@ -73,7 +73,7 @@ fn read<X: Explorable, F: Files>(
     arguments: &ArgMatches<'_>,
     asked: &Asked,
 ) -> Result<Exploration<X::Choice, X::Cursor, X::Key>, Refusal>
-    ensures given { IfOk result (GivesExploration X.subject X.IsChoice X.is_taken_back
+    ensures given { IfOk result (GivesExploration X.subject X.IsChoice X.images_return
         (found_of arguments.now)) }
     ensures range { IfOk result (λ e. (e.extent.cuts ≤ 16) × (1 ≤ e.extent.limit)) }
 {
@@ -87,7 +87,7 @@ fn read<X: Explorable, F: Files>(
     let choice = X::chosen(arguments);
     Ok(Exploration {
         choice,
-        back: is_taken_back::<X>(&options.source, choice),
+        images_return: images_return::<X>(&options.source, choice),
         extent,
         range,
         start: read_start(files, alloc, &options)?,
@@ -101,13 +101,13 @@ impl<C: Copy, U: Copy, K: Copy> Exploration<C, U, K> {
     ///
     /// `Expectation` where each row is to be right, from a flash, and a slot's expectation is not given.
     fn expectation(&self, asked: &Asked) -> Result<Option<Expectation>, Refusal>
-        ensures { IsExpectation asked.now (ends_of self.now.back self.now.start.named) result }
+        ensures { IsExpectation asked.now (ends_of self.now.images_return self.now.start.named) result }
     {
-        asked.expectation(ends(self.back, self.start.named()))
+        asked.expectation(ends(self.images_return, self.start.named()))
     }
 }
 
-/// Makes an explorer at the first row, or after the one that the options name.
+/// Makes an explorer at the first row, or after the one that the options name, or with that one next.
 ///
 /// # Errors
 ///
@@ -123,6 +123,9 @@ fn explorer<'a, X: Explorable + OfStart<'a>>(
     let choice = exploration.choice;
     if let Some(after) = &exploration.range.after {
         return Ok(TreeExplorer::after(alloc, start, cuts, choice, after)?);
+    }
+    if let Some(from) = &exploration.range.from {
+        return Ok(TreeExplorer::before(alloc, start, cuts, choice, from)?);
     }
     match &exploration.range.cursor {
         Some(cursor) => Ok(TreeExplorer::resume(alloc, start, cuts, choice, cursor)?),
@@ -216,7 +219,7 @@ pub fn ask<X: Explorable, F: Files>(
     arguments: &ArgMatches<'_>,
 ) -> Result<(Asked, Exploration<X::Choice, X::Cursor, X::Key>), Refusal>
     ensures asked { IfOk result (λ given. GivesAsked (found_of arguments.now) given.0) }
-    ensures given { IfOk result (λ given. GivesExploration X.subject X.IsChoice X.is_taken_back
+    ensures given { IfOk result (λ given. GivesExploration X.subject X.IsChoice X.images_return
         (found_of arguments.now) given.1) }
     ensures range { IfOk result (λ given. (given.1.extent.cuts ≤ 16)
         × (1 ≤ given.1.extent.limit)) }
@@ -226,8 +229,8 @@ pub fn ask<X: Explorable, F: Files>(
     Ok((asked, exploration))
 }
 
-/// Prints a page of rows: one for each schedule, or campaign, of at most so many cuts that can occur, in their order, from the first
-/// or after the one that the options name, up to one that the options name. Where something is asked of the rows, they are counted once more,
+/// Prints a page of rows: one for each schedule, or campaign, of at most so many cuts that can occur, in their order, from the first,
+/// or from or after the one that the options name, up to one that the options name. Where something is asked of the rows, they are counted once more,
 /// and how many are right follows, and the first that is not.
 ///
 /// # Errors

@@ -493,7 +493,7 @@ const CUTS: Word = Word {
 };
 
 /// What gives an exploration of schedules: the most cuts, a page, and which of the rows.
-static EXPLORATION: [Word; 6] = [
+static EXPLORATION: [Word; 7] = [
     CUTS,
     LIMIT,
     ALL,
@@ -501,6 +501,11 @@ static EXPLORATION: [Word; 6] = [
     Word {
         name: "after",
         help: "Go on after this schedule, as 9.4 (- is the first), in place of --cursor",
+        ..SCHEDULE
+    },
+    Word {
+        name: "from",
+        help: "Begin with this schedule, in place of --cursor and --after",
         ..SCHEDULE
     },
     Word {
@@ -645,7 +650,7 @@ static VECTORS: [Word; 5] = [
 static CENSUS: [Word; 1] = [CUTS];
 
 /// What gives an exploration of campaigns.
-static CAMPAIGN: [Word; 7] = [
+static CAMPAIGN: [Word; 8] = [
     Word {
         name: "cuts",
         takes: Takes::Value("K"),
@@ -659,6 +664,11 @@ static CAMPAIGN: [Word; 7] = [
     Word {
         name: "after",
         help: "Go on after this campaign, as 1.9,2.4 (- is the first), in place of --cursor",
+        ..SCHEDULE
+    },
+    Word {
+        name: "from",
+        help: "Begin with this campaign, in place of --cursor and --after",
         ..SCHEDULE
     },
     Word {
@@ -815,8 +825,8 @@ Power fails after 9 operations of the first boot and after 4 of the second; the 
 whole. It boots, finishing a test swap in 5 operations. Each slot is VERSION/SIZE; the boot after
 it would revert. RESULT: boot, none (no valid image), panic (the trailer contradicts itself),
 fault (a write met bytes that are not erased).
-Rows come in this order: -, 0, 0.0, 0.1, .., 1, 1.0, 1.1, .. So --after 0 --until 1 gives those that
-begin with 0 and have more cuts.
+Rows come in this order: -, 0, 0.0, 0.1, .., 1, 1.0, 1.1, .. So --from 0 --until 1 gives those that
+begin with 0, and --after 0 --until 1 those of them that have more cuts.
 How many rows? --cuts 1 has OPS+1; --cuts 2 has 1 more than the sum of OPS over the rows of
 --cuts 1.
 With a verdict the rows are counted once more; see mcsim survey --help.";

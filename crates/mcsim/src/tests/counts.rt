@@ -12,6 +12,8 @@ $ survey WORKED --kind test IMAGES --cuts 1 --limit 20 --all-boot
 rows 19; boot 19; none 0; panic 0; fault 0; most-ops 18; end
 $ survey WORKED --kind test IMAGES --cuts 1 --after 16 --until 18
 rows 1; boot 1; none 0; panic 0; fault 0; most-ops 1; end
+$ survey WORKED --kind test IMAGES --cuts 1 --from 17
+rows 1; boot 1; none 0; panic 0; fault 0; most-ops 1; end
 $ survey WORKED --flash in --cuts 2 < BEGUN,976=50000000,984=02,993=00
 rows 127; boot 0; none 0; panic 0; fault 127; most-ops 13; end
 $ survey WORKED --flash in --cuts 2 --all-boot < BEGUN,976=50000000,984=02,993=00

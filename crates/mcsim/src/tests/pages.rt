@@ -108,6 +108,16 @@ $ explore WORKED --kind test IMAGES --cuts 1 --after 1 --until 2
 end
 $ explore WORKED --kind test IMAGES --cuts 1 --until -
 end
+$ explore WORKED --kind test IMAGES --cuts 1 --from=- --until 1
+- boot test 18 2.0.0+0/80 1.0.0+0/80 revert; 0 boot test 18 2.0.0+0/80 1.0.0+0/80 revert; end
+$ explore WORKED --kind test IMAGES --cuts 1 --from 1 --until 3
+1 boot test 18 2.0.0+0/80 1.0.0+0/80 revert; 2 boot test 18 2.0.0+0/80 1.0.0+0/80 revert; end
+$ explore WORKED --kind test IMAGES --cuts 1 --from 17
+17 boot test 1 2.0.0+0/80 1.0.0+0/80 revert; end
+$ explore WORKED --kind test IMAGES --cuts 2 --limit 1 --from 1
+1 boot test 18 2.0.0+0/80 1.0.0+0/80 revert; next mc1:START:2:1
+$ explore WORKED --kind test IMAGES --cuts 16 --limit 1 --from 0.0.0.0.0.0.0.0.0.0.0.0.0.0.0.1
+0.0.0.0.0.0.0.0.0.0.0.0.0.0.0.1 boot test 18 2.0.0+0/80 1.0.0+0/80 revert; next mc1:START:16:0.0.0.0.0.0.0.0.0.0.0.0.0.0.0.1
 $ explore WORKED --kind test IMAGES --cuts 1 --cursor mc1:START:1:17
 end
 $ explore WORKED --kind test IMAGES --cuts 1 --limit 1 --cursor mc1:START:1:-
@@ -143,7 +153,7 @@ $ explore WORKED --kind none IMAGES --cuts 0 --limit 1
 ";
 
 /// Cursors and schedules that are refused. A cursor of whole calls does not serve where the power is cut between units. Texts
-/// are checked before a file is opened, and before them that only one of the two is given.
+/// are checked before a file is opened, and before them that only one of the three is given.
 const REFUSED: &str = "\
 $ explore WORKED --kind test IMAGES --cuts 2 --cursor mc1:START:2:18
 ! mcsim: E58 CannotOccur; exit 1
@@ -167,6 +177,16 @@ $ explore WORKED --flash missing --cuts 1 --cursor - --until 1.
 ! mcsim: E55 Syntax; exit 2
 $ explore WORKED --flash missing --cuts 1 --after 01 --cursor -
 ! mcsim: E73 CursorOptions; exit 2
+$ explore WORKED --flash missing --cuts 1 --from 01 --cursor -
+! mcsim: E73 CursorOptions; exit 2
+$ explore WORKED --flash missing --cuts 1 --from 01 --after 01
+! mcsim: E73 CursorOptions; exit 2
+$ explore WORKED --flash missing --cuts 1 --from 01 --until 1.
+! mcsim: E60 ScheduleSyntax; exit 2
+$ explore WORKED --kind test IMAGES --cuts 1 --from 18
+! mcsim: E58 CannotOccur; exit 1
+$ explore WORKED --kind test IMAGES --cuts 1 --from 0.0
+! mcsim: E58 CannotOccur; exit 1
 $ explore WORKED --kind test IMAGES --cuts 1 --cursor mc1:START:1:18
 ! mcsim: E58 CannotOccur; exit 1
 $ explore WORKED --kind test IMAGES --cuts 1 --cursor mc1:START:1:0.0

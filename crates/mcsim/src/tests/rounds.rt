@@ -35,6 +35,8 @@ $ census WORKED --kind test IMAGES --cuts 1 --confirm
 ! mcsim: an argument is missing or out of its range; exit 2
 $ campaign WORKED --kind test IMAGES --cuts 1 --after 1.17 --until 2.1 --all-boot
 2.0 boot test 18 boot revert 23 1.0.0+0/80 2.0.0+0/80 none; end
+$ campaign WORKED --kind test IMAGES --cuts 1 --from 2.0 --until 2.1
+2.0 boot test 18 boot revert 23 1.0.0+0/80 2.0.0+0/80 none; end
 $ campaign WORKED --kind test IMAGES --cuts 1 --limit 1 --expect-secondary none --all-right
 - boot test 18 boot revert 23 1.0.0+0/80 2.0.0+0/80 none; next mc3:call:1:leave:START:1:-; right 0; first-not-right -; ! mcsim: E76 NotAllRight; exit 1
 $ campaign WORKED --kind test IMAGES --cuts 0 --expect-primary 2 --expect-secondary 2
@@ -42,6 +44,8 @@ $ campaign WORKED --kind test IMAGES --cuts 0 --expect-primary 2 --expect-second
 $ campaign WORKED --flash in --cuts 1 --until 1.1 < MOVED
 - boot test 9 boot revert 23 1.0.0+0/80 2.0.0+0/80 none; 1.0 boot test 9 boot revert 23 1.0.0+0/80 2.0.0+0/80 none; end
 $ campaign WORKED --kind test IMAGES --cuts 1 --after 2.23
+! mcsim: E58 CannotOccur; exit 1
+$ campaign WORKED --kind test IMAGES --cuts 1 --from 2.23
 ! mcsim: E58 CannotOccur; exit 1
 $ campaign WORKED --kind test IMAGES --cuts 1 --until 9.4
 ! mcsim: E62 CampaignSyntax; exit 2
