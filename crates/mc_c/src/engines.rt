@@ -8,7 +8,7 @@ ghost use Rattle.mc_c.specs.Exports.{Begins, IsCensusText, IsFlashAtCut, IsFlash
 use crate::source::Source;
 use mc_boot::Outcome;
 use mc_explore::{
-    Explorer, MOST_CUTS, OneRound, Schedule, Start, flash_at_cut, replay, take_census,
+    Explorer, MOST_CUTS, Schedule, Schedules, Start, flash_at_cut, replay, take_census,
     write_census, write_page,
 };
 use mc_flash::JournalFlash;
@@ -253,12 +253,12 @@ pub fn census(
         return Err(Refusal::Argument);
     }
     let start = source.start(alloc, a, b)?;
-    let census = match take_census::<JournalFlash, OneRound>(alloc, &start, bound as u8, ()) {
+    let census = match take_census::<JournalFlash, Schedules>(alloc, &start, bound as u8, ()) {
         Ok(census) => census,
         Err(error) => return Err(Refusal::Explore(error)),
     };
     let mut text = Vec::new(alloc);
-    match write_census::<OneRound, Vec<u8>>(&census, &mut text) {
+    match write_census::<Schedules, Vec<u8>>(&census, &mut text) {
         Ok(()) => Ok(text),
         Err(_) => Err(Refusal::Memory),
     }

@@ -7,34 +7,28 @@ use Rattle.mc_tree.specs.{facts.Order.{allowed-last, allowed_prefix, not_same, p
 use Rattle.mc_flash.specs.{Geometry.{IsLayout}, Usage.{most_operations}, facts.Usage.{few_operations}}
 use Rattle.mc_explore.proofs.BootWays.{of_second}
 use Rattle.mc_boot.specs.{Plan.{PowerOn, again}, Outcome.{ops_of}, facts.Bounds.{few_ops}}
-use Rattle.mc_walk.specs.{Walks.{Walked, GoesDown, IsSame, IsThere}, facts.Same.{path_back, same_back}}
+use Rattle.mc_walk.specs.{Walks.{Walked, GoesDown, IsPath, IsSame, IsThere}, facts.Same.{path_back, same_back}}
 use Rattle.mc_explore.specs.{inner.OneRound.{IsOf}, facts.Summaries.{width_is}, inner.Exploring.{NoAllocationFailed}}
 use Rattle.mc_explore.specs.Boots.{boots}
-use Rattle.mc_campaign.specs.{inner.TwoRounds.{model_of}, Campaigns.{IsMember}}
+use Rattle.mc_campaign.specs.Campaigns.{IsMember}
+use Rattle.mc_explore.proofs.CutsAlong.{labelled-length, labelled-push}
+use Rattle.mc_explore.specs.declared.rounds.BootTree.{BootTree}
 use Rattle.mc_campaign.specs.Rounds.{cuts_along}
-use Rattle.mc_campaign.specs.inner.View.{FollowsCampaign, HasChildOf, IsPathIn, begun_of}
+use Rattle.mc_campaign.specs.inner.View.{FollowsCampaign, HasChildOf, begun_of}
 use Rattle.mc_explore.specs.declared.rounds.Round.TheVariants as rounds_of
 use Rattle.mc_explore.specs.declared.rounds.Rounds.TheVariants as kinds
-use Rattle.mc_campaign.specs.{declared.rounds.TwoRounds.{TwoRounds}, facts.Paths.{path_of}}
+use Rattle.mc_campaign.specs.facts.Paths.{path_of}
 use Rattle.mc_explore.specs.Rounds.{second_start, tree_of}
 use Rattle.mc_explore.specs.declared.rounds.Both.{Both}
-use Rattle.mc_explore.specs.inner.BootTree.{AreSummaries}
+use Rattle.mc_explore.specs.inner.BootTree.{AreSummaries, confirms_of, model_of, root_of}
+use Rattle.mc_tree.specs.Tree as trees
 
 -- ---- labels along a path
 
-module _ {N L : Type 0} (t : Tree N) (name : N → ℕ → L) where
-  pub labelled-push : (s : N) (l : List ℕ) (i : ℕ) → labelled t name s (l ++ i ∷ []) ≡ labelled t name s l ++ name (landed t s l) i ∷ []
-  labelled-push s [] i = refl
-  labelled-push s (x ∷ l) i = ap (λ z. name s x ∷ z) (labelled-push (t.child s x) l i)
-
-  labelled-take : (s : N) (l : List ℕ) (n : ℕ) → labelled t name s (take n l) ≡ take n (labelled t name s l)
-  labelled-take s l zero = refl
-  labelled-take s [] (suc n) = refl
-  labelled-take s (x ∷ l) (suc n) = ap (λ z. name s x ∷ z) (labelled-take (t.child s x) l n)
-
-  pub labelled-length : (s : N) (l : List ℕ) → length (labelled t name s l) ≡ length l
-  labelled-length s [] = refl
-  labelled-length s (x ∷ l) = ap suc (labelled-length (t.child s x) l)
+labelled-take : {N L : Type 0} (t : Tree N) (name : N → ℕ → L) (s : N) (l : List ℕ) (n : ℕ) → labelled t name s (take n l) ≡ take n (labelled t name s l)
+labelled-take t name s l zero = refl
+labelled-take t name s [] (suc n) = refl
+labelled-take t name s (x ∷ l) (suc n) = ap (λ z. name s x ∷ z) (labelled-take t name (t.child s x) l n)
 
 -- Paths of the same cuts are one.
 same_path : {N : Type 0} (t : Tree N) (next : N → N) (p : RoundNode N) (l m : List ℕ) → labels t next p l ≡ labels t next p m → l ≡ m
@@ -49,21 +43,25 @@ last_same {X = X} xs x y e = let q : x ∷ [] ≡ y ∷ [] = sym (drop-append_se
 
 -- ---- along a campaign
 
-module _ (c : List (ℕ × ℕ)) (old : Walked TwoRounds) where
+module _ (c : List (ℕ × ℕ)) (confirms : Bool) (old : Walked BootTree) where
+  -- Its paths are those of two rounds.
+  abbrev IsPathIn : List ℕ → Type 0
+  IsPathIn = trees.IsMember (tree_of confirms) (round_one (begun_of old)) old.bound
+
   -- The cuts along a path of that walk.
   abbrev cuts : List ℕ → List (ℕ × ℕ)
-  cuts path = cuts_along old.flash_tree.confirms (begun_of old) path
+  cuts path = cuts_along confirms (begun_of old) path
 
   abbrev tree : Tree (RoundNode PowerOn)
-  tree = tree_of old.flash_tree.confirms
+  tree = tree_of confirms
 
   abbrev name : RoundNode PowerOn → ℕ → ℕ × ℕ
-  name = label boots (second_start old.flash_tree.confirms)
+  name = label boots (second_start confirms)
 
   -- It has come along so many cuts.
-  pub record IsAlong (n : ℕ) (now : Walked TwoRounds) : Type 0 where
+  pub record IsAlong (n : ℕ) (now : Walked BootTree) : Type 0 where
     pub cuts_are : cuts now.path ≡ take n c
-    pub member : IsPathIn old now.path
+    pub member : IsPathIn now.path
     pub same : IsSame old now
     pub stands : now.stands ≡ true
     pub no_allocation_failed : NoAllocationFailed old.seen now.seen
@@ -71,30 +69,35 @@ module _ (c : List (ℕ × ℕ)) (old : Walked TwoRounds) where
   pub along_begin : old.stands ≡ true → old.path ≡ [] → IsAlong 0 old
   along_begin stands root = grind arith
 
-  module _ (n : ℕ) (mid : Walked TwoRounds) (a : IsAlong n mid) (inside : n < length c) (summary : Both) (there : IsThere (model_of mid.flash_tree) mid summary) (number : Option ℕ)
+  module _ (n : ℕ) (mid : Walked BootTree) (a : IsAlong n mid) (inside : n < length c) (summary : Both) (there : IsThere (model_of mid.flash_tree) mid summary) (number : Option ℕ)
       (child : (start : PowerOn) (confirms : Bool) (p : RoundNode PowerOn) → IsLayout start.geometry → AreSummaries start (kinds.Two confirms) p summary
       → HasChildOf confirms p (get_or c n (0, 0)) number)
-      (valid : IsLayout (begun_of old).geometry) where
+      (valid : IsLayout (begun_of old).geometry) (two : old.flash_tree.rounds ≡ kinds.Two confirms) where
+    paths_are : IsPath (model_of old.flash_tree) old ≡ IsPathIn
+    paths_are = ap (λ r. trees.IsMember (tree_of (confirms_of r)) (root_of r (begun_of old)) old.bound) two
+
     -- The node where it stands.
     abbrev here : RoundNode PowerOn
     here = landed tree (round_one (begun_of old)) mid.path
 
-    summary_here : AreSummaries (begun_of old) (kinds.Two old.flash_tree.confirms) here summary
-    summary_here = subst (λ (b : TwoRounds). (model_of b).IsSummary (landed (model_of b).tree (model_of b).root mid.path) summary) a.same.flash_tree there.summary_is
+    summary_here : AreSummaries (begun_of old) (kinds.Two confirms) here summary
+    summary_here =
+        subst (λ r. AreSummaries (begun_of old) r (landed (tree_of (confirms_of r)) (root_of r (begun_of old)) mid.path) summary) two
+        (subst (λ (b : BootTree). (model_of b).IsSummary (landed (model_of b).tree (model_of b).root mid.path) summary) a.same.flash_tree there.summary_is)
 
     abbrev named : ℕ → ℕ × ℕ
     named i = name here i
 
-    is_child : (i : ℕ) → IsPathIn old (mid.path ++ i ∷ []) → named i ≡ get_or c n (0, 0) ↔ number ≡ Some i
+    is_child : (i : ℕ) → IsPathIn (mid.path ++ i ∷ []) → named i ≡ get_or c n (0, 0) ↔ number ≡ Some i
     is_child i m =
-        child (begun_of old) old.flash_tree.confirms here valid summary_here i (allowed-last tree (round_one (begun_of old)) mid.path i m.1)
+        child (begun_of old) confirms here valid summary_here i (allowed-last tree (round_one (begun_of old)) mid.path i m.1)
 
-    pub along_more : (i : ℕ) (went : Bool) (new : Walked TwoRounds) → number ≡ Some i → went ≡ true → GoesDown (model_of mid.flash_tree) i mid went new
+    pub along_more : (i : ℕ) (went : Bool) (new : Walked BootTree) → number ≡ Some i → went ≡ true → GoesDown (model_of mid.flash_tree) i mid went new
         → NoAllocationFailed mid.seen new.seen → IsAlong (n + 1) new
     along_more i false new is e d no_allocation_failed = absurd cc
     along_more i true new is e d no_allocation_failed =
-        let member = path_back model_of old mid new.path a.same d.1 in
-        let at = (is_child i (subst (IsPathIn old) d.0 member)).1 is in
+        let member = subst (λ P. P new.path) paths_are (path_back model_of old mid new.path a.same d.1) in
+        let at = (is_child i (subst IsPathIn d.0 member)).1 is in
         record {
           cuts_are = ap cuts d.0 ∙ labelled-push tree name (round_one (begun_of old)) mid.path i ∙ ap (λ z. z ++ named i ∷ []) a.cuts_are ∙ ap (λ z. take n c ++ z ∷ []) at
               ∙ sym (take_more c n (0, 0) inside);
@@ -105,9 +108,9 @@ module _ (c : List (ℕ × ℕ)) (old : Walked TwoRounds) where
         }
 
     -- Where the campaign is one of those to go through, there is a child at its next cut.
-    next_child : IsMember (begun_of old) old.flash_tree.confirms old.bound c → (j : ℕ) × IsPathIn old (mid.path ++ j ∷ []) × (number ≡ Some j)
+    next_child : IsMember (begun_of old) confirms old.bound c → (j : ℕ) × IsPathIn (mid.path ++ j ∷ []) × (number ≡ Some j)
     next_child m =
-        let k = old.flash_tree.confirms in
+        let k = confirms in
         let s = begun_of old in
         let p = path_of k s old.bound c m in
         let l : List ℕ = p.0 in
@@ -122,22 +125,23 @@ module _ (c : List (ℕ × ℕ)) (old : Walked TwoRounds) where
         let both : take n c ++ named j ∷ [] ≡ take n c ++ get_or c n (0, 0) ∷ [] =
         ap (λ z. z ++ named j ∷ []) (sym a.cuts_are) ∙ sym (labelled-push tree name (round_one s) mid.path j) ∙ ap cuts (sym more) ∙ at in
         let at_most : length (take (n + 1) l) ≤ old.bound = omega (arith, length-take-le (n + 1) l (omega (arith, below)), below, p.1.member.0) in
-        let member : IsPathIn old (mid.path ++ j ∷ []) = subst (IsPathIn old) more (at_most, allowed_prefix (tree_of k) (round_one s) l (n + 1) p.1.member.1) in
+        let member : IsPathIn (mid.path ++ j ∷ []) = subst IsPathIn more (at_most, allowed_prefix (tree_of k) (round_one s) l (n + 1) p.1.member.1) in
         (j, member, (is_child j member).0 (last_same (take n c) (named j) (get_or c n (0, 0)) both))
 
-    pub none_there : number ≡ None → IsMember (begun_of old) old.flash_tree.confirms old.bound c → ⊥
+    pub none_there : number ≡ None → IsMember (begun_of old) confirms old.bound c → ⊥
     none_there none m = let next = next_child m in let is : number ≡ Some next.0 = next.2 in absurd cc
 
-    pub stops_there : (i : ℕ) (went : Bool) (new : Walked TwoRounds) → number ≡ Some i → went ≡ false → GoesDown (model_of mid.flash_tree) i mid went new
-        → IsMember (begun_of old) old.flash_tree.confirms old.bound c → ⊥
+    pub stops_there : (i : ℕ) (went : Bool) (new : Walked BootTree) → number ≡ Some i → went ≡ false → GoesDown (model_of mid.flash_tree) i mid went new
+        → IsMember (begun_of old) confirms old.bound c → ⊥
     stops_there i true new is e d m = absurd cc
     stops_there i false new is e d m =
         let next = next_child m in
         let same : next.0 ≡ i = let q : Some next.0 ≡ Some i = sym next.2 ∙ is in cc in
-        d.0 (path_back model_of mid old (mid.path ++ i ∷ []) (same_back model_of old mid a.same) (subst (λ x. IsPathIn old (mid.path ++ x ∷ [])) same next.1))
+        let there = subst (λ x. IsPathIn (mid.path ++ x ∷ [])) same next.1 in
+        d.0 (path_back model_of mid old (mid.path ++ i ∷ []) (same_back model_of old mid a.same) (subst (λ P. P (mid.path ++ i ∷ [])) (sym paths_are) there))
 
   -- It has come to the end.
-  pub along_all : (n : ℕ) (now : Walked TwoRounds) → IsAlong n now → length c ≤ n → FollowsCampaign old c true now
+  pub along_all : (n : ℕ) (now : Walked BootTree) → IsAlong n now → length c ≤ n → FollowsCampaign confirms old c true now
   along_all n now a le = (record { member = a.member; cuts_are = a.cuts_are ∙ take_all n c le }, a.same, a.stands)
 
 -- ---- the child at a cut

@@ -23,28 +23,6 @@ in_round_few round (x ∷ cuts) = by (x.0 == round) (in_round_few round cuts)
     by true at_most = omega (arith, at_most)
     by false at_most = omega (arith, at_most)
 
--- ---- cuts that are taken one after another
-
-pub is_none : {A : Type 0} (o : Option A) → ((x : A) → o ≡ Some x → ⊥) → o ≡ None
-is_none None not = refl
-is_none (Some x) not = absurd (not x refl)
-
-past_all : (xs : List (ℕ × ℕ)) (i : ℕ) → slice_get xs i ≡ None → length xs ≤ i
-past_all [] i none = omega arith
-past_all (x ∷ xs) zero none = absurd cc
-past_all (x ∷ xs) (suc i) none = omega (arith, past_all xs i none)
-
-module _ (all : List (ℕ × ℕ)) (step : ℕ) where
-  pub taken_more : (cut : ℕ × ℕ) → Some cut ≡ slice_get all step → take (step + 1) all ≡ take step all ++ cut ∷ []
-  taken_more cut is =
-      take_more all step cut (slice_get_within all step cut (sym is)) ∙ ap (λ z. take step all ++ z ∷ []) (get_or_from_slice_get all step cut cut (sym is))
-
-  pub taken_within : (cut : ℕ × ℕ) → Some cut ≡ slice_get all step → step < length all
-  taken_within cut is = slice_get_within all step cut (sym is)
-
-  pub taken_whole : None ≡ slice_get all step → take step all ≡ all
-  taken_whole none = take_all step all (past_all all step (sym none))
-
 -- ---- the cuts of a round, one after another
 
 module _ (round : ℕ) (cuts : List (ℕ × ℕ)) (i : ℕ) (inside : i < length cuts) where

@@ -4,4 +4,3 @@ mod Loaded
 pub mod Replays
 mod Along
 pub mod Reading
-mod LastCuts

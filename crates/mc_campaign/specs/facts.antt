@@ -3,5 +3,5 @@ pub mod Cuts
 pub mod Room
 pub mod Paths
 pub mod Listed
+pub mod InRounds
 pub mod Keys
-pub mod Tails

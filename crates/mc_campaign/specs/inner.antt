@@ -1,4 +1,3 @@
 -- Views, invariants and states of the code's own. No public contract needs them to be believed.
-pub mod TwoRounds
+pub mod InRounds
 pub mod View
-pub mod LastCuts

@@ -4,10 +4,11 @@ ghost use Rattle.mc_tree.specs.Tree.{Before};
 ghost use Rattle.mc_campaign.specs.Campaigns.{IsInOrder, Precedes, in_round};
 ghost use Rattle.mc_explore.specs.Rounds.{number_of};
 ghost use Rattle.mc_campaign.specs.Texts.{campaign_text, cut_text, FitsCut, IsAdded, IsCampaign, IsCut, ReadsCampaign};
-ghost use Rattle.mc_campaign.specs.facts.Cuts.{last_round, number_later};
-ghost use Rattle.mc_start.specs.Start.{IsNextText, on_last};
+ghost use Rattle.mc_campaign.specs.facts.Cuts.{last_round};
+ghost use Rattle.mc_campaign.specs.facts.InRounds.{round_at};
+ghost use Rattle.mc_campaign.specs.inner.InRounds.{campaign_of};
 
-use mc_explore::{Line, MOST_CUTS, MOST_LINE, Round, Schedule};
+use mc_explore::{Cuts, Line, MOST_CUTS, MOST_LINE, Round, Schedule};
 use std::fmt;
 use std::marker::Model;
 use thiserror::Error;
@@ -67,6 +68,17 @@ fn cut_of(text: &str) -> Result<(u8, u32), CampaignError>
         1 => Ok((1, *index)),
         2 => Ok((2, *index)),
         _ => Err(CampaignError),
+    }
+}
+
+// The round of the cut of that number, where so many lie in the first.
+fn round_at(in_first: u32, index: usize) -> u8
+    ensures { result ≡ round_at in_first index }
+{
+    if index < in_first as usize {
+        Round::First.number()
+    } else {
+        Round::Second.number()
     }
 }
 
@@ -145,44 +157,16 @@ impl Campaign {
         self.len += 1;
     }
 
-    /// Makes the number of its last cut one greater, where it has one that is not the greatest number; says whether it has.
-    #[inline]
-    pub(crate) fn count_up(&mut self) -> bool
-        ensures counted { result ≡ true → self.new ≡ on_last (number_later 1) self.old }
-        ensures text { result ≡ true → IsNextText (campaign_text self.old)
-            (campaign_text self.new) }
-        ensures same { result ≡ false → self.new ≡ self.old }
+    /// The campaign of the cuts along a path.
+    pub(crate) fn of(cuts: &Cuts) -> Campaign
+        ensures { result ≡ campaign_of cuts.now }
     {
-        if self.len == 0 {
-            return false;
+        let mut campaign = Campaign::new();
+        for number in cuts.numbers.cuts() {
+            let round = round_at(cuts.in_first, campaign.len());
+            campaign.push(round, *number);
         }
-        let last = self.len - 1;
-        let (round, index) = self.cuts[last];
-        match index.checked_add(1) {
-            Some(more) => {
-                self.cuts[last] = (round, more);
-                true
-            }
-            None => false,
-        }
-    }
-
-    /// The same with one cut more, where there is room for it and none of a later round stands before it.
-    pub(crate) fn with(&self, round: Round, index: u32) -> Option<Campaign>
-        ensures more { IfSome result (λ more. more ≡ self.now ++ (number_of round, index) ∷ []) }
-        ensures some { length self.now < 16 → IsInOrder (self.now ++ (number_of round, index) ∷ [])
-            → is_some result ≡ true }
-    {
-        let round = round.number();
-        if self.len == MOST_CUTS {
-            return None;
-        }
-        if self.last_round() > round {
-            return None;
-        }
-        let mut more = *self;
-        more.push(round, index);
-        Some(more)
+        campaign
     }
 
     /// How many cuts it has, in both rounds.

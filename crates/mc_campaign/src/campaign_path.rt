@@ -9,8 +9,7 @@ ghost use Rattle.mc_explore.specs.inner.BootTree.{AreSummaries};
 ghost use Rattle.mc_explore.specs.inner.Exploring.{NoAllocationFailed};
 
 use crate::campaign::Campaign;
-use crate::rounds::TwoRounds;
-use mc_explore::{Both, Round};
+use mc_explore::{BootTree, Both, Round};
 use mc_flash::Flash;
 use mc_walk::Walk;
 use std::alloc::AllocError;
@@ -44,13 +43,16 @@ fn child_of(summary: &Both, cut: (u8, u32)) -> Option<u32>
 ///
 /// Where the flash was refused memory.
 pub(crate) fn follow<F: Flash>(
-    walk: &mut Walk<F, TwoRounds<'_>>,
+    walk: &mut Walk<F, BootTree<'_>>,
+    confirms: bool,
     campaign: &Campaign,
 ) -> Result<bool, AllocError>
     requires stands { walk.old.stands ≡ true }
     requires root { walk.old.path ≡ [] }
     requires valid { IsLayout (begun_of walk.old).geometry }
-    ensures follows { IfOk result (λ went. FollowsCampaign walk.old campaign.now went walk.new) }
+    requires rounds { walk.old.flash_tree.rounds ≡ Two confirms }
+    ensures follows { IfOk result (λ went. FollowsCampaign confirms walk.old campaign.now went
+        walk.new) }
     ensures no_allocation_failed { OnOk result (NoAllocationFailed walk.old.seen walk.new.seen) }
 {
     for cut in campaign.cuts() {

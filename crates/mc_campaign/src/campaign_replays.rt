@@ -12,7 +12,7 @@ ghost use Rattle.mc_campaign.specs.Rows.{Restarts};
 
 use crate::campaign::Campaign;
 use mc_boot::{Outcome, confirm, restart_law};
-use mc_explore::{OneRound, ReplayError, Round, Schedule, Start, load_for, replay_on};
+use mc_explore::{ReplayError, Round, Schedule, Start, load_for, replay_on};
 use mc_flash::Flash;
 use std::alloc::Global;
 
@@ -35,8 +35,7 @@ fn replay_round<F: Flash>(
         (most_at (one_round (begun start.now)) (length cuts.now))) }
     ensures counted { IfOk result (λ done. (F.seen done.1).usage.limits.counted ≡ F.counted) }
 {
-    let tree = OneRound { start };
-    let walk = load_for(alloc, start, tree, cuts.len() as u8, u32::from(boots))?;
+    let walk = load_for(alloc, start, cuts.len() as u8, u32::from(boots))?;
     let done = replay_on(walk, cuts)?;
     Ok(done)
 }

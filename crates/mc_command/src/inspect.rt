@@ -5,7 +5,7 @@ ghost use Rattle.mc_options.specs.Arguments.{GivesLayout, GivesRules};
 ghost use Rattle.mc_command.specs.Inspections.{IsFound, IsSwapOf, first_of, second_of};
 
 use clap::ArgMatches;
-use mc_explore::{Kind, OneRound, Start};
+use mc_explore::{Kind, Schedules, Start};
 use mc_flash::{FlashError, JournalFlash, Layout};
 use mc_options::{
     GREATEST_FLASH, GREATEST_IMAGE, Refusal, kind_name, layout_options, read_file, required,
@@ -189,9 +189,9 @@ pub fn run<F: Files, O: Write>(
 ) -> Result<(), Refusal> {
     let inspected = read(files, alloc, arguments)?;
     // Before anything is written, so that want of memory leaves no beginning.
-    let counts = count::<OneRound>(alloc, &inspected.wanted)?;
+    let counts = count::<Schedules>(alloc, &inspected.wanted)?;
     print(alloc, &inspected, out)?;
-    conclude::<OneRound, O>(&counts, inspected.wanted.asked(), out)
+    conclude::<Schedules, O>(&counts, inspected.wanted.asked(), out)
 }
 
 /// A swap, and where a flash occurs in it.

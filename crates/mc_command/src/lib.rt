@@ -13,9 +13,9 @@ use mc_actions::rounds::{RoundText, print as print_rounds};
 use mc_actions::{
     create, dumpinfo, explain, layout, life, replay, rounds, trace, trailers, vectors, verify,
 };
-use mc_campaign::TwoRounds;
+use mc_campaign::Campaigns;
 use mc_cli::{WatchedFiles, WatchedWriter, left_out, parse};
-use mc_explore::OneRound;
+use mc_explore::Schedules;
 use mc_options::{
     Refusal, asks_file, has_two_rounds, print_cost, print_note, report_file, report_reason,
     span_options, view_options, with_files,
@@ -205,12 +205,12 @@ fn run_exploration<F: Files, O: Write>(
 ) -> Result<(), Refusal> {
     match name {
         "explore" => {
-            let (asked, rows) = explore::ask::<OneRound, F>(files, alloc, arguments)?;
-            explore::run::<OneRound, O>(&rows, &asked, alloc, out)
+            let (asked, rows) = explore::ask::<Schedules, F>(files, alloc, arguments)?;
+            explore::run::<Schedules, O>(&rows, &asked, alloc, out)
         }
         "campaign" => {
-            let (asked, rows) = explore::ask::<TwoRounds, F>(files, alloc, arguments)?;
-            explore::run::<TwoRounds, O>(&rows, &asked, alloc, out)
+            let (asked, rows) = explore::ask::<Campaigns, F>(files, alloc, arguments)?;
+            explore::run::<Campaigns, O>(&rows, &asked, alloc, out)
         }
         "survey" => run_survey(files, alloc, arguments, out),
         "census" => run_census(files, alloc, arguments, out),
@@ -226,11 +226,11 @@ fn run_census<F: Files, O: Write>(
     out: &mut O,
 ) -> Result<(), Refusal> {
     if has_two_rounds(arguments)? {
-        let wanted = census::read::<TwoRounds, F>(files, alloc, arguments)?;
-        census::run::<TwoRounds, O>(&wanted, alloc, out)
+        let wanted = census::read::<Campaigns, F>(files, alloc, arguments)?;
+        census::run::<Campaigns, O>(&wanted, alloc, out)
     } else {
-        let wanted = census::read::<OneRound, F>(files, alloc, arguments)?;
-        census::run::<OneRound, O>(&wanted, alloc, out)
+        let wanted = census::read::<Schedules, F>(files, alloc, arguments)?;
+        census::run::<Schedules, O>(&wanted, alloc, out)
     }
 }
 
@@ -242,10 +242,10 @@ fn run_survey<F: Files, O: Write>(
     out: &mut O,
 ) -> Result<(), Refusal> {
     if has_two_rounds(arguments)? {
-        let (asked, rows) = explore::ask::<TwoRounds, F>(files, alloc, arguments)?;
-        explore::survey::<TwoRounds, O>(&rows, &asked, alloc, out)
+        let (asked, rows) = explore::ask::<Campaigns, F>(files, alloc, arguments)?;
+        explore::survey::<Campaigns, O>(&rows, &asked, alloc, out)
     } else {
-        let (asked, rows) = explore::ask::<OneRound, F>(files, alloc, arguments)?;
-        explore::survey::<OneRound, O>(&rows, &asked, alloc, out)
+        let (asked, rows) = explore::ask::<Schedules, F>(files, alloc, arguments)?;
+        explore::survey::<Schedules, O>(&rows, &asked, alloc, out)
     }
 }

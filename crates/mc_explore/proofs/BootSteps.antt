@@ -11,7 +11,7 @@ use Rattle.mc_tree.specs.{inner.Weights.{AreTwins}}
 use Rattle.mc_explore.specs.{inner.OneRound.{IsOf, CanPass, CountsAtMost, IsSummary, LeavesAlike, most_of, one_round}, facts.Occurring.{at_zero}}
 use Rattle.mc_explore.specs.{Boots.{at_cut, boots}, Rounds.{second_start, tree_of}}
 use Rattle.mc_explore.specs.{facts.Summaries.{first_left, first_on, width_is}, declared.one_round.Summary.{Summary}}
-use Rattle.mc_explore.specs.inner.BootTree.{AreSummaries, IsLater, HasFirst, confirms_of, began_at, later_from, later_number, boot_at, left_of_child_boot, most_of_both, owed_at, boot_model}
+use Rattle.mc_explore.specs.inner.BootTree.{AreSummaries, IsLater, HasFirst, confirms_of, step_of, began_at, later_from, later_number, boot_at, left_of_child_boot, most_of_both, owed_at, boot_model}
 use Rattle.mc_explore.specs.declared.rounds.Round.TheVariants as rounds_of
 use Rattle.mc_explore.specs.{declared.rounds.Both.{Both}, declared.rounds.ChildBoot.{ChildBoot}, declared.rounds.Rounds.{Rounds}}
 use Rattle.mc_explore.specs.declared.rounds.ChildBoot.TheVariants as child_boots
@@ -40,6 +40,15 @@ module _ (start : PowerOn) (rounds : Rounds) where
       subst P is.0 (first_left s summary is.1 old)
 
   -- ---- the first
+
+  -- After it there is a second, so that two steps may lie between children.
+  two_steps : (r : Rounds) → HasFirst r → step_of r ≡ 2
+  two_steps kinds.One is = absurd is
+  two_steps (kinds.Two confirms) is = refl
+
+  pub first_steps : (p : RoundNode PowerOn) (i : ℕ) (boot : Boot) (ops : ℕ) (later : Summary) → (boot_model start rounds).IsOn p i (child_boots.First boot ops later) → step_of rounds ≡ 2
+  first_steps (round_one x) i boot ops later on = two_steps rounds on.inside
+  first_steps (round_two began x) i boot ops later on = absurd on
 
   pub begins_first : (p : RoundNode PowerOn) (summary : Both) (seen : Seen) → summary.round ≡ rounds_of.First → 0 < summary.first.outcome.ops → AreSummaries start rounds p summary
       → seen.content ≡ (boot_at p).content → seen.geometry ≡ start.geometry

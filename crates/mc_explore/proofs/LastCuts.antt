@@ -82,6 +82,11 @@ module _ {O : Type 0} (IsTold : List ℕ → O → Type 0) where
       told_more (inl same) = both _ _ same.1 same.0 are
       told_more (inr more) = both _ _ more.1 more.0 (of_more Of old.count old.told.items are (record { first = old.count; of = told }) refl here)
 
+-- Where nothing is kept.
+pub kept_none : {N A T O : Type 0} (k : TreeModel N A T) (IsLike : List ℕ → List ℕ → Type 0) (IsTold : List ℕ → O → Type 0) (kept : AtCuts O) → IsNothing kept → kept.joined ≡ None
+    → AreKept k IsLike IsTold kept
+kept_none k IsLike IsTold kept none joined = record { at_cuts = told_none IsTold kept none; joined_is = rw joined tt }
+
 -- A walk stands after a step, with that summary.
 module _ {B N A T : Type 0} (k : TreeModel N A T) (w : Walked B) (f : Frame A T) (summary : T) (of path : List ℕ) (last : ℕ) (step : IsLastStep k w f) (there : IsThere k w summary)
     (path_is : path ≡ w.path) (split : path ≡ of ++ last ∷ []) where

@@ -3,6 +3,8 @@ pub mod BootTails
 pub mod BootWays
 pub mod BootSteps
 mod BootRows
+pub mod BootLast
+pub mod CutsAlong
 mod Bytes
 mod Continued
 mod Onwards

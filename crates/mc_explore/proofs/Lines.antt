@@ -3,7 +3,8 @@ use Rattle.std.proofs.Common.{◌∙◌, ap, append_assoc, arith, inl, inr, leng
 use Rattle.std.proofs.{Math.ListN.{get_or}, lemmas.List.{length-take-le}, lemmas.Option.{same_Some}}
 use Rattle.std.specs.Prelude.{List, Option, Some, [], length, take, ℕ, ◌++◌, ◌+◌, ◌-◌, ◌∷◌, ◌≡◌}
 use Rattle.mc_start.specs.facts.Counting.{parted}
-use Rattle.mc_explore.specs.{Subject.{Subject}, inner.Exploring.{AreNextTexts, IsCountedUp}, inner.Lines.{IsLine, IsLineOf, IsNextLine}}
+use Rattle.mc_explore.specs.{Subject.{Subject}, declared.boot_row.BootRow.{BootRow}, inner.BootRows.{counted_up}}
+use Rattle.mc_explore.specs.{inner.Exploring.{AreNextTexts, Edge, IsCountedUp, IsFamily}, inner.Lines.{IsLine, IsLineOf, IsNextLine}}
 
 module _ {C K R U : Type 0} (x : Subject C K R U) where
   -- Of two rows with such texts.
@@ -25,10 +26,11 @@ module _ {C K R U : Type 0} (x : Subject C K R U) where
       ap length name_is ∙ length-append front ((digit + 1) ∷ []) ∙ sym (length-append front (digit ∷ [])) ∙ ap length (sym ends) in
       (one.2 ∙ sym whole, same ∙ key_is ∙ sym long)
 
-  pub line_on : (up : ℕ → R → R) (before : Option R) (row : R) (old : List ℕ) (key : ℕ) (new : List ℕ) (key' : ℕ) → IsCountedUp x up before (Some row) → IsLineOf x before old key
-      → IsNextLine key old new → key' ≡ key → IsLine x row new key'
-  line_on up before row old key new key' counted (inl none) (some, within, next) same = absurd (omega (arith, some, within, ap length none))
-  line_on up before row old key new key' counted (inr (r, is, line)) next same =
+  pub line_on : (edge : Edge C K R) → IsFamily x edge → (before : Option BootRow) (row : BootRow) (old : List ℕ) (key : ℕ) (new : List ℕ) (key' : ℕ) → IsCountedUp before (Some row)
+      → IsLineOf x edge before old key → IsNextLine key old new → key' ≡ key → IsLine x (edge.shown_of row) new key'
+  line_on edge family before row old key new key' counted (inl none) (some, within, next) same = absurd (omega (arith, some, within, ap length none))
+  line_on edge family before row old key new key' counted (inr (r, is, line)) next same =
       let before_is : counted.before ≡ r = same_Some _ _ (sym counted.was ∙ is) in
-      let row_is : up 1 counted.before ≡ row = same_Some _ _ (sym counted.is) in
-      next_line r row old key new key' (subst (λ a. AreNextTexts x a row) before_is (subst (AreNextTexts x counted.before) row_is counted.text)) line next same
+      let row_is : counted_up 1 counted.before ≡ row = same_Some _ _ (sym counted.is) in
+      let T : BootRow → BootRow → Type 0 = λ a b. AreNextTexts x (edge.shown_of a) (edge.shown_of b) in
+      next_line (edge.shown_of r) (edge.shown_of row) old key new key' (subst (λ a. T a row) before_is (subst (T counted.before) row_is (family.texts counted.before counted.can))) line next same

@@ -1,5 +1,5 @@
 -- From one cut of a boot to the next, and the summary of the flash there.
-use Rattle.std.specs.Prelude.{◌≡◌, ℕ, ◌+◌, ◌<◌, ◌≤◌, List, [], ◌∷◌, ◌++◌, length, None, Option, Some, Result, Ok, Err, IfSome, refl, suc, zero}
+use Rattle.std.specs.Prelude.{◌≡◌, ℕ, ◌+◌, ◌<◌, ◌≤◌, List, [], ◌∷◌, length, None, Option, Some, Result, Ok, Err, IfSome, refl, suc, zero}
 use Rattle.std.proofs.Common.{arith, sym, ap, subst, ◌∙◌}
 use Rattle.mc_flash.specs.{Flash.{Content}, Geometry.{Geometry}, Usage.{Seen, Keeps, Spends, LeaveRoom, plus}, declared.op.Op.{Op}}
 use Rattle.mc_flash.specs.declared.flash.FlashError.{FlashError}
@@ -11,7 +11,7 @@ use Rattle.mc_boot.specs.{Plan.{Plan, plan, PowerOn, again, power_on, powered}, 
 use Rattle.mc_boot.specs.{facts.Steps.{refused_here, step_counts, step_spends, stepped_here}, declared.boot.Boot.{Boot}, declared.outcome.Outcome.{Outcome}}
 use Rattle.mc_walk.specs.TreeModel.{AreTwinsOn, IsAt, IsChildOf, IsTwin, HasNext, ReachesNext}
 use Rattle.mc_tree.specs.inner.Weights.{AreTwins}
-use Rattle.mc_explore.specs.{facts.Tails.{shared_like}, inner.LastCuts.{AreLike, AreSame, boot_at}, inner.OneRound.{CanPass, GoesOnIn, IsOf, IsSummary, Passes, one_round}, Schedules.{EndsWith}}
+use Rattle.mc_explore.specs.{inner.OneRound.{CanPass, GoesOnIn, IsOf, IsSummary, Passes, one_round}, Schedules.{EndsWith}}
 use Rattle.mc_explore.specs.Boots.{at_cut, boots}
 use Rattle.mc_explore.specs.{declared.one_round.Summary.{Summary}, facts.Occurring.{at_is, at_zero, come_lands, lands_at}}
 
@@ -135,13 +135,6 @@ module _ (start : PowerOn) where
       → IfSome found (λ tail. (x : PowerOn) (i : ℕ) → IsChildOf (one_round start) x i b parent child f → GoesOnIn x i tail)
   goes_on_here b child parent f None joins = tt
   goes_on_here b child parent f (Some tail) joins = λ x i here. joined_here x i b child parent f tail here.at_is here.some here.parent_is.1 here.child_is.1 joins
-
-  -- And so do its children among those of the parent.
-  pub joins_like : (b : Boot) (child parent : Summary) (f : Seen) (found : Option SharedTail)
-      → IfSome found (λ tail. (x : PowerOn) (i : ℕ) → IsChildOf (one_round start) x i b parent child f → GoesOnIn x i tail)
-      → IfSome found (λ tail. (path : List ℕ) (i : ℕ) → IsChildOf (one_round start) (boot_at start path) i b parent child f → AreLike (one_round start) (AreSame start) path (path ++ i ∷ []) tail)
-  joins_like b child parent f None goes = tt
-  joins_like b child parent f (Some tail) goes = λ path i here. shared_like start path i tail (goes (boot_at start path) i here)
 
   -- After a cut so many operations later the same boot begins.
   pub twin_at : (x : PowerOn) (i j : ℕ) (b : Boot) (child : Summary) → (one_round start).IsOn x i b → (one_round start).IsSummary (boots.child x i) child → HasTwin x (at_cut x i) (b.done + j)

@@ -1,11 +1,13 @@
 -- The path before one is the last below the child before it, or its parent; and so it is of keys.
 use Rattle.std.proofs.Common.{Bool, List, Some, [], ap, append-nil, append_assoc, arith, length, length-append, refl, subst, suc, sym, take, zero, ℕ, ◌++◌, ◌+◌, ◌<◌, ◌∙◌, ◌∷◌, ◌≡◌, ◌≤◌, false, true}
 use Rattle.mc_boot.specs.Plan.{PowerOn}
-use Rattle.mc_explore.specs.{Subject.{IsPlaceBefore, Subject}, inner.Before.{GoesBefore, GoesToLast, IsPathOf}, inner.Exploring.{AreKeys}}
-use Rattle.mc_explore.proofs.Visiting.{next_key}
+use Rattle.mc_explore.specs.{Subject.{IsPlaceBefore, Subject}, declared.rounds.BootTree.{BootTree}, declared.rounds.Both.{Both}, declared.rounds.Rounds.{Rounds}}
+use Rattle.mc_explore.specs.inner.{Before.{GoesBefore, GoesToLast, IsPathOfKey}, BootRows.{cuts_along, tree_in}, BootTree.{begins_of, model_of, root_of}}
+use Rattle.mc_explore.specs.inner.Exploring.{Edge, IsFamily, IsLoaded, IsOurs, key_along}
+use Rattle.mc_explore.proofs.Visiting.{next_key, ours_on, paths_are, paths_in}
 use Rattle.mc_tree.specs.Tree.{After, Allowed, AtStart, IsMember, IsNext, IsNextIn, Tree, landed}
 use Rattle.mc_tree.specs.facts.Order.{AllLast, HasNoChild, allowed-last, allowed-push, allowed_prefix, landed-push, next_above, next_below, next_beyond, none_before_root}
-use Rattle.mc_walk.specs.{TreeModel.{HasWidth, TreeModel}, Walks.{Follows, GoesDown, IsPath, IsSame, Walked, node_at}}
+use Rattle.mc_walk.specs.{TreeModel.{HasWidth, TreeModel}, Walks.{Begins, Follows, GoesDown, IsPath, IsSame, Walked, node_at, position_of}, declared.tour.Phase.{Phase}}
 use Rattle.mc_walk.specs.declared.tour.Phase.TheVariants as phases
 
 -- ---- paths
@@ -46,9 +48,6 @@ module _ {N : Type 0} (t : Tree N) where
     -- The parent of a first child comes before it.
     pub before_first : (next : List ℕ) → next ≡ path ++ 0 ∷ [] → IsMember t s bound next → IsNext (IsMember t s bound) (After path) next
     before_first next is m = rw is (next_below t s bound path (rw is at m))
-
-    pub parent_listed : (number : ℕ) → IsMember t s bound (path ++ number ∷ []) → IsMember t s bound path
-    parent_listed number m = (omega (arith, m.0, length-append path (number ∷ [])), allowed_front s path (number ∷ []) m.1)
 
     -- The last path below the child before it comes before a later child.
     module _ (number : ℕ) (more next before : List ℕ) (is : next ≡ path ++ (number + 1) ∷ []) (listed : IsMember t s bound next) (before_is : before ≡ (path ++ number ∷ []) ++ more)
@@ -196,24 +195,38 @@ module _ {B N A T : Type 0} (model : B → TreeModel N A T) where
 
 -- ---- keys
 
-module _ {B C K R U N A T : Type 0} (x : Subject C K R U) (model : B → TreeModel N A T) (begins : B → PowerOn) (choice : B → C) (key_of : B → List ℕ → K)
-    (keys : (b : B) → AreKeys x (model b).tree (model b).root (begins b) (choice b) (key_of b)) (b : B) (bound : ℕ) (k : K) (path : List ℕ)
-    (of : IsPathOf x model begins choice key_of b bound k (Some path)) (start : PowerOn) (chosen : C) (start_is : begins b ≡ start) (choice_is : choice b ≡ chosen) where
+-- A walk that was loaded for a start, and has begun.
+pub begun_ours : (counted : Bool) (start : PowerOn) (rounds : Rounds) (bound : ℕ) (w one : Walked BootTree) (summary : Both) → IsLoaded model_of begins_of counted start bound w
+    → w.flash_tree.rounds ≡ rounds → bound ≤ 16 → Begins (model_of w.flash_tree) w summary one → one.seen.usage.limits ≡ w.seen.usage.limits → IsOurs counted start rounds bound one
+begun_ours counted start rounds bound w one summary l rounds_are at_most b limits =
+    let ours : IsOurs counted start rounds bound w = record { start_is = l.start_is; rounds_are = rounds_are; bound_is = l.bound_is; at_most = at_most; counted_is = l.counted_is } in
+    ours_on counted start rounds bound w ours one b.same limits
+
+module _ {C K R U : Type 0} (x : Subject C K R U) (edge : Edge C K R) (family : IsFamily x edge) (start : PowerOn) (chosen : C) (bound : ℕ) (k : K) (path : List ℕ)
+    (of : IsPathOfKey x edge start chosen bound k (Some path)) where
+  -- The key that comes next after that of a path, where its own path comes next.
+  next_of : (p : Phase) (before : List ℕ) → paths_in (edge.rounds_in chosen) start bound before → IsNext (paths_in (edge.rounds_in chosen) start bound) (position_of p before) path
+      → IsNextIn x.Before (x.IsListed start chosen bound) (position_of p (key_along x edge start chosen before)) k
+  next_of p before m next =
+      subst (IsNextIn x.Before (x.IsListed start chosen bound) (position_of p (key_along x edge start chosen before))) of.1
+      (next_key x (tree_in (edge.rounds_in chosen)) (root_of (edge.rounds_in chosen) start) start chosen (key_along x edge start chosen) (family.keys start chosen) bound before m p path next)
+
   -- A key is the first where its path is.
   pub key_first : path ≡ [] → IsPlaceBefore x start chosen bound k AtStart
-  key_first is = rw (start_is, choice_is, of.1) at (next_key x model begins choice key_of keys b bound path of.0 phases.Fresh path (record {
+  key_first is = next_of phases.Fresh path of.0 (record {
     listed = of.0;
     past = tt;
     none_between = λ m listed past before. none_before_root m (rw is at before);
-  }))
+  })
 
   -- The key of the path before its own comes before it.
-  pub key_after : (w new : Walked B) (before : K) → w.flash_tree ≡ b → w.bound ≡ bound → GoesBefore (model w.flash_tree) path w true new → before ≡ key_of new.flash_tree new.path
-      → IsPlaceBefore x start chosen bound k (After before)
-  key_after w new before tree_is bound_is goes is =
-      let (next, listed, same, stands) = rw (tree_is, bound_is) at goes in
-      let key_is : before ≡ key_of b new.path = is ∙ ap (λ z. key_of z new.path) (goes.2.flash_tree ∙ tree_is) in
-      let here : x.IsListed (begins b) (choice b) bound (key_of b new.path) = (keys b).listed bound new.path listed in
-      let there : IsNextIn x.Before (x.IsListed (begins b) (choice b) bound) (After (key_of b new.path)) (key_of b path) =
-      next_key x model begins choice key_of keys b bound new.path listed phases.Going path next in
-      (rw (sym key_is, start_is, choice_is) at here, rw (sym key_is, start_is, choice_is, of.1) at there)
+  pub key_after : (counted : Bool) (w new : Walked BootTree) → IsOurs counted start (edge.rounds_in chosen) bound w → GoesBefore (model_of w.flash_tree) path w true new
+      → IsPlaceBefore x start chosen bound k (After (edge.key_in (cuts_along new.flash_tree.rounds (begins_of new.flash_tree) new.path)))
+  key_after counted w new ours goes =
+      let paths = paths_are counted start (edge.rounds_in chosen) bound w ours in
+      let listed = subst (λ P. P new.path) paths goes.1 in
+      let next = subst (λ P. IsNext P (After new.path) path) paths goes.0 in
+      let key : key_along x edge start chosen new.path ≡ edge.key_in (cuts_along new.flash_tree.rounds (begins_of new.flash_tree) new.path) =
+      ap edge.key_in (sym (ap (λ (t : BootTree). cuts_along t.rounds (begins_of t) new.path) goes.2.flash_tree
+      ∙ ap (λ r. cuts_along r (begins_of w.flash_tree) new.path) ours.rounds_are ∙ ap (λ s. cuts_along (edge.rounds_in chosen) s new.path) ours.start_is)) in
+      subst (λ z. IsPlaceBefore x start chosen bound k (After z)) key ((family.keys start chosen).listed bound new.path listed, next_of phases.Going new.path listed next)

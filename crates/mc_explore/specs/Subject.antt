@@ -132,10 +132,6 @@ pub record Explores {C K A : Type 0} (counted : Bool) (old : Explored C K) (resu
 
 -- The rows of a subject, as they are listed.
 
--- A row is that of a path, with its outcomes.
-abbrev pub IsRowAt : {B C K R U : Type 0} → Subject C K R U → (B → PowerOn) → (B → C) → (B → List ℕ → K) → B → List ℕ → R → Type 0
-IsRowAt x begins choice key_of b path row = (x.key row ≡ key_of b path) × x.HasOutcome (begins b) (choice b) row
-
 module _ {C K R U : Type 0} (x : Subject C K R U) where
   -- A row of the whole list: one of the keys to go through, with its outcomes.
   pub record IsRow (start : PowerOn) (choice : C) (bound : ℕ) (row : R) : Type 0 where

@@ -3,6 +3,7 @@ pub mod Occurring
 pub mod Summaries
 pub mod Restarts
 pub mod Listed
+pub mod OneRoundPaths
 pub mod Keys
 pub mod Following
 pub mod LastCuts

@@ -4,6 +4,7 @@ pub mod OneRound
 pub mod BootTree
 pub mod BootEnds
 pub mod LastCuts
+pub mod BootRows
 pub mod Totals
 pub mod Runs
 pub mod Table

@@ -1,13 +1,15 @@
 //! The key before another, for an explorer that begins with that one.
 ghost use Rattle.std.specs.Prelude.{◌≡◌, ◌≤◌, ◌⊎◌, [], true, IfErr, IfOk, OnOk, option_map};
 ghost use Rattle.mc_start.specs.Start.{begun};
-ghost use Rattle.mc_explore.specs.inner.Before.{GoesBefore, GoesToLast, IsPathOf, place_of};
+ghost use Rattle.mc_explore.specs.inner.Before.{GoesBefore, GoesToLast, IsPathOfKey, place_of};
 ghost use Rattle.mc_explore.specs.Subject.{IsPlaceBefore};
 ghost use Rattle.mc_walk.specs.Walks.{IsPath};
 
+use crate::boot_row::Cuts;
 use crate::error::ExploreError;
-use crate::subject::{OfStart, Subject};
-use crate::tree_loading::load_tree;
+use crate::rounds::BootTree;
+use crate::subject::Subject;
+use crate::tree_loading::load_boots;
 use mc_flash::Flash;
 use mc_start::{Schedule, Start};
 use mc_walk::{FlashTree, Walk};
@@ -55,21 +57,19 @@ fn go_before<F: Flash, B: FlashTree>(
 }
 
 // The path of a key, if it is one of those to go through.
-fn path_of<'a, F: Flash, X: OfStart<'a>>(
+fn path_of<F: Flash, X: Subject>(
     alloc: Global,
-    start: &'a Start,
-    flash_tree: X,
+    start: &Start,
     bound: u8,
+    choice: X::Choice,
     key: &X::Key,
 ) -> Result<Option<Schedule>, AllocError>
-    requires bound { bound ≤ 16 }
-    requires start { X.begins flash_tree ≡ begun start.now }
-    ensures { IfOk result (IsPathOf X.subject X.model X.begins X.choice X.key_of flash_tree bound
-        key.now) }
+    requires { bound ≤ 16 }
+    ensures { IfOk result (IsPathOfKey X.subject X.edge (begun start.now) choice bound key.now) }
 {
-    let mut walk: Walk<F, X> = load_tree(alloc, start, flash_tree, bound)?;
+    let mut walk: Walk<F, BootTree<'_>> = load_boots(alloc, start, X::rounds_of(choice), bound)?;
     walk.begin()?;
-    if !X::follow(&mut walk, key)? {
+    if !X::follow(&mut walk, choice, key)? {
         return Ok(None);
     }
     Ok(Some(Schedule::of(walk.path().as_slice())))
@@ -80,9 +80,9 @@ fn path_of<'a, F: Flash, X: OfStart<'a>>(
 /// # Errors
 ///
 /// `CannotOccur` where it is none of the keys to go through; `Memory`.
-pub(crate) fn key_before<'a, F: Flash, X: OfStart<'a>>(
+pub(crate) fn key_before<F: Flash, X: Subject>(
     alloc: Global,
-    start: &'a Start,
+    start: &Start,
     bound: u8,
     choice: X::Choice,
     key: &X::Key,
@@ -93,16 +93,15 @@ pub(crate) fn key_before<'a, F: Flash, X: OfStart<'a>>(
     ensures err { IfErr result (λ e. (e ≡ ExploreError.Memory) ⊎ ((e ≡ ExploreError.CannotOccur)
         × (X.subject.IsListed (begun start.now) choice bound key.now → ⊥))) }
 {
-    let flash_tree = X::of(start, choice);
-    let Some(path) = path_of::<F, X>(alloc, start, flash_tree, bound, key)? else {
+    let Some(path) = path_of::<F, X>(alloc, start, bound, choice, key)? else {
         return Err(ExploreError::CannotOccur);
     };
-    let mut walk: Walk<F, X> = load_tree(alloc, start, flash_tree, bound)?;
+    let mut walk: Walk<F, BootTree<'_>> = load_boots(alloc, start, X::rounds_of(choice), bound)?;
     walk.begin()?;
     if !go_before(&mut walk, path.cuts())? {
         return Ok(None);
     }
     let before = Schedule::of(walk.path().as_slice());
-    let row = X::row(&walk, &before);
-    Ok(Some(X::key(&row)))
+    let cuts = Cuts::along(&walk, &before);
+    Ok(Some(X::key_of(&cuts)))
 }

@@ -3,6 +3,7 @@ ghost use Rattle.std.specs.Prelude.{◌≡◌};
 ghost use Rattle.mc_boot.specs.Outcome.{shown};
 ghost use Rattle.mc_explore.specs.inner.BootEnds.{ends_by};
 
+use crate::boot_row::Ends;
 use crate::rounds::{BootTree, Both, ChildBoot, Round, Rounds};
 use mc_boot::{BootResult, Outcome, SharedTail};
 use mc_flash::Flash;
@@ -28,6 +29,7 @@ impl BootTree<'_> {
     ghost use Rattle.mc_explore.specs.declared.expectation.Expectation.{Expectation};
     ghost use Rattle.mc_explore.specs.inner.BootEnds.{LieIn, report_of};
     ghost use Rattle.mc_explore.specs.Rounds.{tree_of};
+    ghost use Rattle.mc_explore.specs.inner.BootRows.{HoldsEnds};
     ghost use Rattle.mc_explore.specs.inner.BootTree.{confirms_of, model_of};
     ghost use Rattle.mc_explore.specs.inner.Table.{IsTailOf, paths_of};
     ghost use Rattle.mc_tree.specs.Tree.{RoundNode, landed};
@@ -62,6 +64,21 @@ impl BootTree<'_> {
                     Round::Second => Some(tail),
                 }
             }
+        }
+    }
+
+    /// How the rounds end at a node with that summary.
+    pub(crate) fn ends(&self, summary: &Both) -> Ends
+        ensures { (p : RoundNode PowerOn) → (model_of self.now).IsSummary p summary.now
+            → HoldsEnds self.now.rounds p result }
+    {
+        let first = match self.rounds {
+            Rounds::One => None,
+            Rounds::Two { .. } => Some(summary.first.outcome),
+        };
+        Ends {
+            first,
+            last: summary.second.outcome,
         }
     }
 

@@ -7,8 +7,8 @@ ghost use Rattle.mc_explore.specs.Rows.{row_cost, Finds, state_after, RowRestart
 ghost use Rattle.mc_explore.specs.Subject.{Explores};
 
 use crate::error::ExploreError;
-use crate::one_round::OneRound;
 use crate::row::Row;
+use crate::schedules::Schedules;
 use crate::tree_explorer::TreeExplorer;
 use mc_flash::Flash;
 use mc_start::{Cursor, Schedule, Start};
@@ -19,7 +19,7 @@ use std::marker::Model;
 /// flash.
 #[derive(Drop)]
 pub struct Explorer<'a, F: Flash> {
-    pub(crate) inner: TreeExplorer<'a, F, OneRound<'a>>,
+    pub(crate) inner: TreeExplorer<'a, F, Schedules>,
 }
 
 impl<'a, F: Flash> Model for Explorer<'a, F> {

@@ -128,7 +128,7 @@ pub fn replay<F: Flash>(
 {
     restart_law();
     let cuts = schedule.cuts();
-    let walk = load_walk(alloc, start, cuts.len() as u8, ())?;
+    let walk = load_walk(alloc, start, cuts.len() as u8)?;
     let done = replay_on(walk, cuts)?;
     Ok(done)
 }
@@ -153,7 +153,7 @@ pub fn flash_at_cut<F: Flash>(
         ≡ limits_for start.now.rules.grain start.now.geometry (length schedule.now + 1)) }
 {
     let cuts = schedule.cuts();
-    let walk = load_walk(alloc, start, cuts.len() as u8, ())?;
+    let walk = load_walk(alloc, start, cuts.len() as u8)?;
     let (there, _) = follow(walk, cuts)?;
     Ok(there.into_flash())
 }

@@ -41,6 +41,14 @@ impl Rounds {
     ghost use Rattle.std.specs.Prelude.{◌≡◌};
     ghost use Rattle.mc_explore.specs.inner.BootTree.{confirms_of, more_of};
 
+    /// How many rounds they are.
+    pub fn count(self) -> u64 {
+        match self {
+            Rounds::One => 1,
+            Rounds::Two { .. } => 2,
+        }
+    }
+
     /// For how many boots more than there are cuts a flash is loaded.
     pub fn more(self) -> u32
         ensures { result ≡ more_of self }

@@ -1,8 +1,10 @@
 //! The line of a row, which is kept for the next one: where only the last cut is counted up, a digit of it changes.
 ghost use Rattle.std.specs.Prelude.{◌≡◌, [], true, Option, Some};
 ghost use Rattle.mc_explore.specs.inner.Exploring.{IsCountedUp};
+ghost use Rattle.mc_explore.specs.declared.boot_row.BootRow.{BootRow as Row};
 ghost use Rattle.mc_explore.specs.inner.Lines.{IsLine, IsLineOf, IsNextLine};
 
+use crate::boot_row::BootRow;
 use crate::labels::Labels;
 use crate::subject::Subject;
 use arrayvec::ArrayVec;
@@ -36,11 +38,11 @@ impl RowLine {
     }
 
     /// Makes it the line of a row.
-    pub fn put<X: Subject>(&mut self, row: &X::Row, labels: &Labels)
-        ensures { IsLine X.subject (X.shown row.now) self.new.text.items self.new.key }
+    pub fn put<X: Subject>(&mut self, row: &BootRow, labels: &Labels)
+        ensures { IsLine X.subject (X.edge.shown_of row.now) self.new.text.items self.new.key }
     {
         let mut line = Line::new();
-        self.key = X::put_row(row, &mut line, labels);
+        self.key = X::put_row(&X::row(row), &mut line, labels);
         line.put("\n");
         self.text.clear();
         let _fits = self.text.try_extend_from_slice(line.as_str().as_bytes());
@@ -48,11 +50,10 @@ impl RowLine {
 
     /// Makes it the line of a row, out of that of the row before, where the row is that with its last cut counted up.
     #[inline]
-    pub fn turn_to<X: Subject>(&mut self, row: &X::Row, counted_up: bool, labels: &Labels)
-        ensures { (before : Option X.Shown)
-            → (counted_up ≡ true → IsCountedUp X.subject X.up before (Some (X.shown row.now)))
-            → IsLineOf X.subject before self.old.text.items self.old.key
-            → IsLine X.subject (X.shown row.now) self.new.text.items self.new.key }
+    pub fn turn_to<X: Subject>(&mut self, row: &BootRow, counted_up: bool, labels: &Labels)
+        ensures { (before : Option Row) → (counted_up ≡ true → IsCountedUp before (Some row.now))
+            → IsLineOf X.subject X.edge before self.old.text.items self.old.key
+            → IsLine X.subject (X.edge.shown_of row.now) self.new.text.items self.new.key }
     {
         if counted_up && self.count_up() {
             return;

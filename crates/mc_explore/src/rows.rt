@@ -2,33 +2,41 @@
 ghost use Rattle.std.specs.Prelude.{◌≡◌, ℕ, List, ◌≤◌, [], false, true, option_map, None, Ok, IfOk, IfSome, OnOk};
 ghost use Rattle.mc_tree.specs.Tree.{Position};
 ghost use Rattle.mc_walk.specs.Walks.{Costs, Visits, IsFresh};
+ghost use Rattle.mc_explore.specs.inner.BootRows.{AreKeptOf, IsRowIn};
+ghost use Rattle.mc_explore.specs.inner.BootTree.{model_of};
 ghost use Rattle.mc_explore.specs.inner.Exploring.{CostsRow, FindsRow, IsCountedUp, IsWithin, StandsFor, TakesCountedUp};
 
 use crate::ahead::{RowsAhead, still_to_come};
-use crate::subject::Subject;
+use crate::at_cuts::AtCuts;
+use crate::boot_row::{BootRow, Ends};
+use crate::last_cuts::{row_ahead, tell};
+use crate::rounds::BootTree;
 use mc_flash::Flash;
 use mc_start::Schedule;
 use mc_walk::{Phase, Tour, TourError, Walk};
 use std::marker::Model;
 
-/// Goes through the rows of a subject over one flash. Those after a node that can be found without the flash are found so.
+/// Goes through the rows of a tree of boots over one flash. Those after a node that can be found without the flash are found so.
 #[derive(Drop)]
-pub struct Rows<F: Flash, X: Subject> {
-    tour: Tour<F, X>,
+pub struct Rows<'a, F: Flash> {
+    tour: Tour<F, BootTree<'a>>,
     // The path at which the tour stands.
     path: Schedule,
-    kept: X::Kept,
+    kept: AtCuts<Ends>,
     // The last row, where there was one.
-    row: Option<X::Row>,
+    row: Option<BootRow>,
     // The rows after that path, where they are found without the flash.
-    ahead: Option<RowsAhead<X::Ahead>>,
+    ahead: Option<RowsAhead>,
 }
 
-impl<F: Flash, X: Subject> Model for Rows<F, X> {
-    ghost use Rattle.std.specs.Prelude.{option_map};
+impl<'a, F: Flash> Model for Rows<'a, F> {
+    ghost use Rattle.mc_explore.specs.declared.boot_row.BootRow.{BootRow as Row};
+    ghost use Rattle.mc_explore.specs.declared.rounds.BootTree.{BootTree as Boots};
+    ghost use Rattle.mc_explore.specs.inner.BootRows.{AreAhead, AreKeptOf, IsRowIn, counted_up};
+    ghost use Rattle.mc_explore.specs.inner.BootTree.{model_of};
     ghost use Rattle.mc_explore.specs.inner.Exploring.{last_of, IsRowing, Rowed};
 
-    ghost Value = { Rowed X X.Row };
+    ghost Value = { Rowed Boots Row };
 
     ghost view = { λ rows. record {
       walk = rows.tour.walk;
@@ -37,17 +45,16 @@ impl<F: Flash, X: Subject> Model for Rows<F, X> {
       row = rows.row;
     } };
 
-    ghost invariant = { λ rows. IsRowing X.subject X.model X.begins X.choice X.key_of X.up X.holds
-        X.is_ahead rows.tour rows.kept rows.path rows.ahead (option_map X.shown rows.row) };
+    ghost invariant = { λ rows. IsRowing model_of IsRowIn counted_up AreKeptOf AreAhead rows.tour
+        rows.kept rows.path rows.ahead rows.row };
 }
 
 // Makes the last row the next one, where that is known to be the same with its last cut counted up.
 #[inline]
-fn count_up<X: Subject>(row: &mut Option<X::Row>, ahead: &mut Option<RowsAhead<X::Ahead>>) -> bool
+fn count_up(row: &mut Option<BootRow>, ahead: &mut Option<RowsAhead>) -> bool
     requires { IfSome ahead.old IsWithin }
     ensures next { result ≡ true → TakesCountedUp ahead.old ahead.new }
-    ensures counted { result ≡ true → IsCountedUp X.subject X.up (option_map X.shown row.old)
-        (option_map X.shown row.new) }
+    ensures counted { result ≡ true → IsCountedUp row.old row.new }
     ensures same { result ≡ false → (row.new ≡ row.old) × (ahead.new ≡ ahead.old) }
 {
     let Some(rows) = ahead else {
@@ -61,7 +68,7 @@ fn count_up<X: Subject>(row: &mut Option<X::Row>, ahead: &mut Option<RowsAhead<X
     let Some(row) = row else {
         return false;
     };
-    if !X::count_up(row) {
+    if !row.count_up() {
         return false;
     }
     rows.counted_up -= 1;
@@ -70,14 +77,11 @@ fn count_up<X: Subject>(row: &mut Option<X::Row>, ahead: &mut Option<RowsAhead<X
 }
 
 // Goes on to the next node: from where a tour stands, or after all children of that node.
-fn next_node<F: Flash, X: Subject>(
-    tour: &mut Tour<F, X>,
-    is_beyond: bool,
-) -> Result<bool, TourError>
+fn next_node<F: Flash>(tour: &mut Tour<F, BootTree<'_>>, is_beyond: bool) -> Result<bool, TourError>
     ensures visits { IfOk result (λ went. (position : Position (List ℕ))
-        → StandsFor X.model is_beyond tour.old position
-        → Visits (X.model tour.old.walk.flash_tree) tour.old position went tour.new) }
-    ensures costs { Costs (X.model tour.old.walk.flash_tree) tour.old result tour.new }
+        → StandsFor model_of is_beyond tour.old position
+        → Visits (model_of tour.old.walk.flash_tree) tour.old position went tour.new) }
+    ensures costs { Costs (model_of tour.old.walk.flash_tree) tour.old result tour.new }
 {
     if is_beyond {
         tour.leave()
@@ -86,13 +90,18 @@ fn next_node<F: Flash, X: Subject>(
     }
 }
 
-impl<F: Flash + Drop, X: Subject> Rows<F, X> {
+impl<'a, F: Flash + Drop> Rows<'a, F> {
     /// From the root.
-    pub fn fresh(walk: Walk<F, X>, kept: X::Kept) -> Rows<F, X>
-        requires fresh { IsFresh (X.model walk.flash_tree) walk }
+    pub fn fresh(walk: Walk<F, BootTree<'a>>, kept: AtCuts<Ends>) -> Rows<'a, F>
+        requires fresh { IsFresh (model_of walk.flash_tree) walk }
         requires at_most { walk.bound ≤ 16 }
-        requires kept { X.holds walk.flash_tree kept }
-        ensures { result ≡ record { walk = walk; phase = Phase.Fresh; last = []; row = None } }
+        requires kept { AreKeptOf walk.flash_tree kept }
+        ensures { result ≡ record {
+          walk = walk.entry;
+          phase = Phase.Fresh;
+          last = [];
+          row = None;
+        } }
     {
         let tour = Tour::fresh(walk);
         Rows {
@@ -105,14 +114,14 @@ impl<F: Flash + Drop, X: Subject> Rows<F, X> {
     }
 
     /// After the path along which a walk came.
-    pub fn after(walk: Walk<F, X>, kept: X::Kept) -> Rows<F, X>
+    pub fn after(walk: Walk<F, BootTree<'a>>, kept: AtCuts<Ends>) -> Rows<'a, F>
         requires stands { walk.stands ≡ true }
         requires at_most { walk.bound ≤ 16 }
-        requires kept { X.holds walk.flash_tree kept }
+        requires kept { AreKeptOf walk.flash_tree kept }
         ensures { result ≡ record {
-          walk = walk;
+          walk = walk.entry;
           phase = Phase.Going;
-          last = walk.path;
+          last = walk.entry.path;
           row = None;
         } }
     {
@@ -129,25 +138,24 @@ impl<F: Flash + Drop, X: Subject> Rows<F, X> {
     // Goes on to the next row where that is known to be the last one with its last cut counted up.
     #[inline]
     fn count_up(&mut self) -> bool
-        ensures finds { result ≡ true → FindsRow X.subject X.model X.begins X.choice X.key_of
-            self.old (option_map X.shown self.new.row) self.new }
-        ensures counted { result ≡ true → IsCountedUp X.subject X.up
-            (option_map X.shown self.old.row) (option_map X.shown self.new.row) }
-        ensures costs { result ≡ true → CostsRow X.model self.old (Ok true) self.new }
+        ensures finds { result ≡ true → FindsRow model_of IsRowIn self.old self.new.row
+            self.new }
+        ensures counted { result ≡ true → IsCountedUp self.old.row self.new.row }
+        ensures costs { result ≡ true → CostsRow model_of self.old (Ok true) self.new }
         ensures same { result ≡ false → self.new ≡ self.old }
     {
-        count_up::<X>(&mut self.row, &mut self.ahead)
+        count_up(&mut self.row, &mut self.ahead)
     }
 
     // Goes on to the next row, if there is one.
     fn go_on(&mut self) -> Result<(), TourError>
-        ensures finds { OnOk result (FindsRow X.subject X.model X.begins X.choice X.key_of
-            self.old (option_map X.shown self.new.row) self.new) }
-        ensures costs { CostsRow X.model self.old result self.new }
+        ensures finds { OnOk result (FindsRow model_of IsRowIn self.old self.new.row
+            self.new) }
+        ensures costs { CostsRow model_of self.old result self.new }
     {
         if let Some(mut rows) = still_to_come(self.ahead) {
             let flash_tree = self.tour.walk().flash_tree();
-            let row = flash_tree.row_ahead(&self.kept, &self.path, &mut rows);
+            let row = row_ahead(&flash_tree, &self.kept, &self.path, &mut rows);
             self.ahead = Some(rows);
             self.row = row;
             return Ok(());
@@ -158,8 +166,8 @@ impl<F: Flash + Drop, X: Subject> Rows<F, X> {
         }
         let walk = self.tour.walk();
         let path = Schedule::of(walk.path().as_slice());
-        let row = X::row(walk, &path);
-        self.ahead = X::arrive(&mut self.kept, walk, &path);
+        let row = BootRow::at(walk, &path);
+        self.ahead = tell(&mut self.kept, walk, &path, &row);
         self.path = path;
         self.row = Some(row);
         Ok(())
@@ -172,11 +180,11 @@ impl<F: Flash + Drop, X: Subject> Rows<F, X> {
     /// `Memory` where the flash was refused memory; from then on always `Failed`.
     #[inline(always)]
     pub fn next(&mut self) -> Result<bool, TourError>
-        ensures finds { OnOk result (FindsRow X.subject X.model X.begins X.choice X.key_of
-            self.old (option_map X.shown self.new.row) self.new) }
-        ensures counted { IfOk result (λ is. is ≡ true → IsCountedUp X.subject X.up
-            (option_map X.shown self.old.row) (option_map X.shown self.new.row)) }
-        ensures costs { CostsRow X.model self.old result self.new }
+        ensures finds { OnOk result (FindsRow model_of IsRowIn self.old self.new.row
+            self.new) }
+        ensures counted { IfOk result (λ is. is ≡ true → IsCountedUp self.old.row
+            self.new.row) }
+        ensures costs { CostsRow model_of self.old result self.new }
     {
         if self.count_up() {
             return Ok(true);
@@ -187,17 +195,10 @@ impl<F: Flash + Drop, X: Subject> Rows<F, X> {
 
     /// The row at which it stands, if there is one.
     #[inline]
-    pub fn row(&self) -> Option<&X::Row>
+    pub fn row(&self) -> Option<&BootRow>
         ensures { option_map (λ row. row.now) result ≡ self.now.row }
     {
         self.row.as_ref()
-    }
-
-    /// The tree.
-    pub fn flash_tree(&self) -> X
-        ensures { result ≡ self.now.walk.flash_tree }
-    {
-        self.tour.walk().flash_tree()
     }
 
     /// The flash as it is.

@@ -1,37 +1,28 @@
 //! Schedules, as what an explorer goes through.
-use crate::ahead::RowsAhead;
-use crate::at_cuts::AtCuts;
-use crate::census::Census;
-use crate::countable::Countable;
-use crate::expectation::Expectation;
-use crate::joining::{Joining, is_same_outcome, tell};
+use crate::boot_row::{BootRow, Cuts};
 use crate::labels::Labels;
-use crate::one_round::{OneRound, Summary};
-use crate::rounds::Rounds;
+use crate::rounds::{BootTree, Rounds};
 use crate::row::Row;
-use crate::start_census::count_paths;
-use crate::subject::{Fields, OfStart, Subject};
-use mc_boot::{Boot, Outcome, SharedTail, restart_law};
+use crate::subject::{Fields, Subject};
+use mc_boot::{Outcome, restart_law};
 use mc_flash::Flash;
-use mc_start::{Cursor, Line, Schedule, Start};
+use mc_start::{Cursor, Line, Schedule};
 use mc_walk::Walk;
-use std::alloc::{AllocError, Global};
+use std::alloc::AllocError;
 
-impl Subject for OneRound<'_> {
+/// Schedules of power cuts: the paths of one round of boots.
+pub struct Schedules;
+
+impl Subject for Schedules {
     ghost use Rattle.std.specs.Prelude.{◌≡◌, ◌≢◌, ◌↔◌, ◌++◌, ◌+◌, ◌<◌, ◌≤◌, [], length, true, false};
     ghost use Rattle.mc_boot.specs.Outcome.{shown};
     ghost use Rattle.mc_boot.specs.Plan.{PowerOn};
     ghost use Rattle.mc_tree.specs.Tree.{Precedes};
     ghost use Rattle.mc_start.specs.Cursor.{cursor_of};
     ghost use Rattle.mc_start.specs.Start.{schedule_text, start_digest};
-    ghost use Rattle.mc_tree.specs.facts.Order.{paths_in_order};
-    ghost use Rattle.mc_explore.specs.inner.LastCuts.{AreKept, AreLastCuts, AreSame, HasOutcomeAt};
-    ghost use Rattle.mc_explore.specs.inner.Exploring.{AreNextTexts};
-    ghost use Rattle.mc_explore.specs.inner.OneRound.{begins, one_round};
     ghost use Rattle.mc_explore.specs.Rows.{fields_of, subject};
     ghost use Rattle.mc_explore.specs.Rows as states;
-    ghost use Rattle.mc_explore.specs.facts.Keys.{are_schedules, counted_up, one_more, row_up, schedule_costs, schedules_clear};
-    ghost use Rattle.mc_explore.specs.facts.Listed.{some_rest};
+    ghost use Rattle.mc_explore.specs.facts.Keys.{edge, schedules_are_family};
 
     ghost Shown = { states.ShownRow };
 
@@ -43,34 +34,16 @@ impl Subject for OneRound<'_> {
 
     type Cursor = Cursor;
 
-    type Kept = AtCuts<Outcome>;
-
-    type Ahead = SharedTail;
-
     ghost subject = { subject };
 
-    ghost begins = { begins };
-
-    ghost choice = { λ _. tt };
-
-    ghost key_of = { λ _ path. path };
+    ghost edge = { edge };
 
     ghost shown = { states.shown_row };
 
     ghost fields = { fields_of };
 
-    ghost holds = { λ o kept. AreKept (one_round (begins o)) (AreSame (begins o)) (HasOutcomeAt (begins o))
-        kept };
-
-    ghost is_ahead = { λ o kept path tail count. AreLastCuts (one_round (begins o)) (AreSame (begins o))
-        (HasOutcomeAt (begins o)) path kept tail count };
-
-    ghost up = { counted_up };
-
-    ghost more = { 1 };
-
-    fn more(self) -> u32 {
-        1
+    fn rounds_of(_choice: ()) -> Rounds {
+        Rounds::One
     }
 
     fn is_choice(one: &(), other: &()) -> bool
@@ -80,62 +53,30 @@ impl Subject for OneRound<'_> {
         *one == *other
     }
 
-    fn none() -> Schedule
-        ensures { result ≡ [] }
+    #[inline]
+    fn key_of(cuts: &Cuts) -> Schedule
+        ensures { result ≡ cuts.now.numbers }
     {
-        Schedule::new()
+        cuts.numbers
     }
 
-    fn follow<F: Flash>(walk: &mut Walk<F, Self>, key: &Schedule) -> Result<bool, AllocError> {
-        let went = walk.follow(key.cuts())?;
-        Ok(went)
-    }
-
-    fn row<F: Flash>(walk: &Walk<F, Self>, path: &Schedule) -> Row {
+    #[inline]
+    fn row(row: &BootRow) -> Row
+        ensures { states.shown_row result ≡ edge.shown_of row.now }
+    {
         Row {
-            schedule: *path,
-            outcome: walk.summary().outcome,
+            schedule: row.cuts.numbers,
+            outcome: row.ends.last,
         }
     }
 
-    fn kept(self, alloc: Global, bound: u8) -> Result<AtCuts<Outcome>, AllocError> {
-        AtCuts::of(alloc, self.start, 1, bound)
-    }
-
-    fn arrive<F: Flash>(
-        kept: &mut AtCuts<Outcome>,
-        walk: &Walk<F, Self>,
-        path: &Schedule,
-    ) -> Option<RowsAhead<SharedTail>> {
-        tell(kept, walk, path)
-    }
-
-    #[inline]
-    fn row_ahead(
-        self,
-        kept: &AtCuts<Outcome>,
-        path: &Schedule,
-        rows: &mut RowsAhead<SharedTail>,
-    ) -> Option<Row> {
-        let number = rows.next;
-        rows.next += 1;
-        rows.counted_up = 0;
-        let (outcome, alike) = kept.find(&rows.ahead, number, &mut rows.near)?;
-        rows.counted_up = alike.min(rows.count - rows.next);
-        let mut schedule = *path;
-        schedule.push(number);
-        Some(Row { schedule, outcome })
-    }
-
-    #[inline]
-    fn count_up(row: &mut Row) -> bool
-        ensures counted { result ≡ true → states.shown_row row.new
-            ≡ counted_up 1 (states.shown_row row.old) }
-        ensures text { result ≡ true → AreNextTexts subject (states.shown_row row.old)
-            (states.shown_row row.new) }
-        ensures same { result ≡ false → row.new ≡ row.old }
-    {
-        row.schedule.count_up()
+    fn follow<F: Flash>(
+        walk: &mut Walk<F, BootTree<'_>>,
+        _choice: (),
+        key: &Schedule,
+    ) -> Result<bool, AllocError> {
+        let went = walk.follow(key.cuts())?;
+        Ok(went)
     }
 
     #[inline]
@@ -158,7 +99,7 @@ impl Subject for OneRound<'_> {
         row.schedule.is_before(key)
     }
 
-    fn restarts(self) {
+    fn restarts() {
         restart_law();
     }
 
@@ -213,79 +154,5 @@ impl Subject for OneRound<'_> {
         cursor.put_into(line);
     }
 
-    ghost are_keys = { λ o. are_schedules (begins o) };
-
-    ghost up_more = { row_up };
-
-    ghost order = { paths_in_order };
-
-    ghost some_rest = { some_rest };
-
-    ghost costs = { λ o. schedule_costs (begins o) };
-
-    ghost few_more = { one_more };
-
-    ghost clear = { λ o. schedules_clear (begins o) };
-}
-
-impl Joining for OneRound<'_> {
-    ghost use Rattle.std.specs.Prelude.{◌≡◌, true};
-    ghost use Rattle.mc_explore.specs.inner.LastCuts.{AreSame, HasOutcomeAt};
-    ghost use Rattle.mc_explore.specs.inner.OneRound.{begins};
-    ghost use Rattle.mc_explore.specs.facts.Tails.{same_outcome};
-
-    type Told = Outcome;
-
-    ghost IsTold = { λ o. HasOutcomeAt (begins o) };
-
-    ghost IsLike = { λ o. AreSame (begins o) };
-
-    fn told(self, summary: &Summary) -> Outcome {
-        summary.outcome
-    }
-
-    fn joined_tail<F: Flash>(
-        self,
-        flash: &F,
-        at: &Boot,
-        parent: &Summary,
-        child: &Summary,
-    ) -> Option<SharedTail> {
-        self.tail_of(flash, at, parent, child)
-    }
-
-    fn is_same(one: &Outcome, other: &Outcome) -> bool
-        ensures { result ≡ true → one.now ≡ other.now }
-    {
-        is_same_outcome(one, other)
-    }
-
-    ghost told_alike = { λ o. same_outcome (begins o) };
-}
-
-impl<'a> OfStart<'a> for OneRound<'a> {
-    fn of(start: &'a Start, _chosen: ()) -> OneRound<'a> {
-        OneRound { start }
-    }
-}
-
-impl Countable for OneRound<'_> {
-    ghost use Rattle.std.specs.Prelude.{◌≤◌, IfOk};
-    ghost use Rattle.mc_explore.specs.{Census.{IsCensusOf}, Right.{judged}, Rows.{subject}};
-    ghost use Rattle.mc_start.specs.Start.{begun};
-
-    fn count<F: Flash>(
-        alloc: Global,
-        start: &Start,
-        bound: u8,
-        _choice: (),
-        expectation: &Expectation,
-    ) -> Result<Census, AllocError>
-        requires { bound ≤ 16 }
-        ensures { IfOk result (IsCensusOf subject (λ row. judged expectation.now
-            (subject.ends row)) (begun start.now) tt bound) }
-    {
-        let census = count_paths::<F>(alloc, start, Rounds::One, bound, expectation)?;
-        Ok(census)
-    }
+    ghost laws = { schedules_are_family };
 }

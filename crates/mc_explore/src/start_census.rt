@@ -1,54 +1,31 @@
 //! The census of a start: of the paths of a tree of boots, and of whatever has these for keys.
-ghost use Rattle.std.specs.Prelude.{◌≡◌, ◌+◌, ◌≤◌, [], IfErr, IfOk};
+ghost use Rattle.std.specs.Prelude.{◌≡◌, ℕ, ◌≤◌, [], IfErr, IfOk};
 ghost use Rattle.mc_start.specs.Start.{begun};
-ghost use Rattle.mc_explore.specs.Census.{IsCensus};
-ghost use Rattle.mc_explore.specs.Right.{AreRights};
+ghost use Rattle.mc_explore.specs.Census.{IsCensus, IsCensusOf};
+ghost use Rattle.mc_explore.specs.Right.{AreRights, judged};
 ghost use Rattle.mc_explore.specs.inner.BootEnds.{report_in};
 ghost use Rattle.mc_explore.specs.Rounds.{tree_of};
-ghost use Rattle.mc_explore.specs.inner.BootTree.{begins_of, confirms_of, model_of, root_of};
+ghost use Rattle.mc_explore.specs.inner.BootRows.{cuts_along, tree_in};
+ghost use Rattle.mc_explore.specs.inner.BootTree.{confirms_of, root_of};
 ghost use Rattle.mc_explore.specs.inner.Table.{weigh};
 ghost use Rattle.mc_explore.specs.inner.Totals.{cut_off};
 ghost use Rattle.mc_tree.specs.inner.Weights.{path_tree};
-ghost use Rattle.mc_walk.specs.Walks.{IsFresh};
+ghost use Rattle.mc_tree.specs.Tree.{IsMember};
 
+use crate::boot_row::Cuts;
 use crate::census::{Census, CensusOf};
 use crate::column::column;
-use crate::countable::Countable;
 use crate::error::ExploreError;
 use crate::expectation::Expectation;
-use crate::one_round::OneRound;
 use crate::rights::RightsOf;
 use crate::rounds::{BootTree, Rounds};
+use crate::subject::Subject;
 use crate::table::census_at;
+use crate::tree_loading::load_boots;
 use mc_flash::Flash;
-use mc_start::Start;
+use mc_start::{Schedule, Start};
 use mc_walk::Walk;
 use std::alloc::{AllocError, Global};
-
-// Loads the flash of a start, for a walk through its boots.
-fn load_boots<'a, F: Flash>(
-    alloc: Global,
-    start: &'a Start,
-    rounds: Rounds,
-    bound: u8,
-) -> Result<Walk<F, BootTree<'a>>, AllocError>
-    requires { bound ≤ 16 }
-    ensures rounds { IfOk result (λ walk. walk.flash_tree.rounds ≡ rounds) }
-    ensures start { IfOk result (λ walk. begins_of walk.flash_tree ≡ begun start.now) }
-    ensures bound { IfOk result (λ walk. walk.bound ≡ bound) }
-    ensures fresh { IfOk result (λ walk. IsFresh (model_of walk.flash_tree) walk) }
-{
-    let layout = *start.layout();
-    // Reading a field gives the prover that it is a layout.
-    let _sector = layout.sector();
-    let one_round = OneRound { start };
-    let flash_tree = BootTree { one_round, rounds };
-    let boots = u32::from(bound) + rounds.more();
-    let grain = start.rules().grain;
-    let (primary, secondary) = (start.primary(), start.secondary());
-    let flash = F::load(alloc, &layout, grain, primary, secondary, boots)?;
-    Walk::start(alloc, flash_tree, usize::from(bound), flash)
-}
 
 /// What all paths of at most so many cuts come to, where only an outcome that meets the expectation counts as a boot.
 ///
@@ -74,6 +51,54 @@ pub fn count_paths<F: Flash>(
     Ok(census_at(&column, usize::from(bound)))
 }
 
+// The cuts along a path that can occur.
+fn cuts_at<F: Flash>(
+    alloc: Global,
+    start: &Start,
+    rounds: Rounds,
+    path: &Schedule,
+) -> Result<Cuts, AllocError>
+    ensures { IfOk result (λ cuts. (bound : ℕ)
+        → IsMember (tree_in rounds) (root_of rounds (begun start.now)) bound path.now
+        → cuts ≡ cuts_along rounds (begun start.now) path.now) }
+{
+    let steps = path.cuts();
+    let mut walk: Walk<F, BootTree<'_>> = load_boots(alloc, start, rounds, steps.len() as u8)?;
+    walk.begin()?;
+    walk.follow(steps)?;
+    let path = Schedule::of(walk.path().as_slice());
+    Ok(Cuts::along(&walk, &path))
+}
+
+// What all rows of at most so many cuts that can occur come to, where only an outcome that meets the expectation counts as a boot.
+fn count<F: Flash, X: Subject>(
+    alloc: Global,
+    start: &Start,
+    bound: u8,
+    chosen: X::Choice,
+    expectation: &Expectation,
+) -> Result<CensusOf<X::Key>, AllocError>
+    requires { bound ≤ 16 }
+    ensures { IfOk result (IsCensusOf X.subject (λ row. judged expectation.now
+        (X.subject.ends row)) (begun start.now) chosen bound) }
+{
+    let rounds = X::rounds_of(chosen);
+    let census = count_paths::<F>(alloc, start, rounds, bound, expectation)?;
+    let first_not_boot = match &census.first_not_boot {
+        Some(path) => Some(X::key_of(&cuts_at::<F>(alloc, start, rounds, path)?)),
+        None => None,
+    };
+    Ok(CensusOf {
+        schedules: census.schedules,
+        boot: census.boot,
+        none: census.none,
+        panic: census.panic,
+        fault: census.fault,
+        most_operations: census.most_operations,
+        first_not_boot,
+    })
+}
+
 /// What all rows of at most so many cuts that can occur come to, without going through them: its time grows with the operations of
 /// a boot and with the bound, not with the rows. It loads a flash as an explorer does, and keeps a table of the flashes on the way
 /// of each boot that does not go on with the one that was cut.
@@ -81,7 +106,7 @@ pub fn count_paths<F: Flash>(
 /// # Errors
 ///
 /// `Memory` where an allocation failed.
-pub fn take_census<F: Flash, X: Countable>(
+pub fn take_census<F: Flash, X: Subject>(
     alloc: Global,
     start: &Start,
     bound: u8,
@@ -92,7 +117,7 @@ pub fn take_census<F: Flash, X: Countable>(
     ensures err { IfErr result (λ e. e ≡ ExploreError.Memory) }
 {
     let any = Expectation::any();
-    let census = X::count::<F>(alloc, start, bound, chosen, &any)?;
+    let census = count::<F, X>(alloc, start, bound, chosen, &any)?;
     Ok(census)
 }
 
@@ -102,7 +127,7 @@ pub fn take_census<F: Flash, X: Countable>(
 /// # Errors
 ///
 /// `Memory` where an allocation failed.
-pub fn take_rights<F: Flash, X: Countable>(
+pub fn take_rights<F: Flash, X: Subject>(
     alloc: Global,
     start: &Start,
     bound: u8,
@@ -114,7 +139,7 @@ pub fn take_rights<F: Flash, X: Countable>(
         bound) }
     ensures err { IfErr result (λ e. e ≡ ExploreError.Memory) }
 {
-    let census = X::count::<F>(alloc, start, bound, chosen, expectation)?;
+    let census = count::<F, X>(alloc, start, bound, chosen, expectation)?;
     Ok(RightsOf {
         right: census.boot,
         first_not_right: census.first_not_boot,

@@ -6,19 +6,21 @@ ghost use Rattle.mc_explore.specs.Pages.{FindsBefore, IsBefore, RowBegan, Writes
 ghost use Rattle.mc_flash.specs.Usage.{limits_for};
 ghost use Rattle.mc_start.specs.Start.{begun};
 ghost use Rattle.mc_tree.specs.Tree.{After, Lost};
+ghost use Rattle.mc_explore.specs.inner.BootTree.{more_of};
 ghost use Rattle.mc_explore.specs.Subject.{Resumes, Explores, Finds, GoesOnBeyond, LeavesExplorer, Restarts, StandsBefore, at_start, row_cost, rows_of, state_after};
 
+use crate::at_cuts::AtCuts;
 use crate::before::key_before;
+use crate::boot_row::{BootRow, Cuts};
 use crate::error::ExploreError;
 use crate::labels::Labels;
 use crate::output::write_text;
 use crate::row_line::RowLine;
 use crate::rows::Rows;
-use crate::subject::{Fields, OfStart, Subject};
-use crate::tree_loading::{check_cursor, load_walk};
+use crate::subject::{Fields, Subject};
+use crate::tree_loading::{check_cursor, load_boots};
 use mc_flash::Flash;
-use mc_start::{Line, Start};
-use mc_walk::Walk;
+use mc_start::{Line, Schedule, Start};
 use std::alloc::Global;
 use std::io::Write;
 use std::marker::Model;
@@ -31,9 +33,9 @@ pub struct TreeExplorer<'a, F: Flash, X: Subject> {
     digest: Option<[u8; 32]>,
     choice: X::Choice,
     bound: u8,
-    rows: Rows<F, X>,
-    // The key of the last row.
-    last: X::Key,
+    rows: Rows<'a, F>,
+    // The cuts of the last row.
+    last: Cuts,
     labels: Labels,
     // The line of the last row, or nothing.
     line: RowLine,
@@ -45,19 +47,20 @@ impl<'a, F: Flash, X: Subject> Model for TreeExplorer<'a, F, X> {
     ghost use Rattle.mc_explore.specs.inner.View.{IsDigestOf};
     ghost use Rattle.mc_walk.specs.Walks.{position_of};
     ghost use Rattle.mc_explore.specs.Subject.{Explored};
-    ghost use Rattle.mc_explore.specs.inner.Exploring.{explored, IsSound};
+    ghost use Rattle.mc_explore.specs.inner.Exploring.{IsSound, explored};
 
     ghost Value = { Explored X.Choice X.Key };
 
-    ghost view = { λ e. explored X.begins X.choice e.rows.walk (position_of e.rows.phase e.last) };
+    ghost view = { λ e. explored (begun e.start.now) e.choice e.bound e.rows.walk
+        (position_of e.rows.phase (X.edge.key_in e.last)) };
 
-    ghost invariant = { λ e. IsSound X.model X.begins X.choice X.key_of F.counted
-        (begun e.start.now) e.choice e.bound e.rows e.last
+    ghost invariant = { λ e. IsSound F.counted (begun e.start.now) (X.edge.rounds_in e.choice)
+        e.bound e.rows e.last
         × IsDigestOf (begun e.start.now) e.digest
-        × KeepsLine X.subject X.shown e.rows e.line.text.items e.line.key };
+        × KeepsLine X.subject X.edge e.rows e.line.text.items e.line.key };
 }
 
-impl<'a, F: Flash + Drop, X: OfStart<'a>> TreeExplorer<'a, F, X> {
+impl<'a, F: Flash + Drop, X: Subject> TreeExplorer<'a, F, X> {
     /// An explorer at the start, under a choice. It takes its own memory here, and none later but through the flash, which
     /// it loads for so many boots more than there are cuts as the subject says.
     ///
@@ -76,18 +79,19 @@ impl<'a, F: Flash + Drop, X: OfStart<'a>> TreeExplorer<'a, F, X> {
         // No operation is done yet, and a flash that counts has room for exactly so many boots.
         ensures applied { IfOk result (λ explorer. explorer.usage.applied ≡ 0) }
         ensures exact { IfOk result (λ explorer. F.counted ≡ true → explorer.usage.limits
-            ≡ limits_for start.now.rules.grain start.now.geometry (bound + X.more)) }
+            ≡ limits_for start.now.rules.grain start.now.geometry (bound + more_of (X.edge.rounds_in choice))) }
         ensures err { IfErr result (λ e. e ≡ ExploreError.Memory) }
     {
-        let walk: Walk<F, X> = load_walk(alloc, start, bound, choice)?;
-        let kept = walk.flash_tree().kept(alloc, bound)?;
+        let rounds = X::rounds_of(choice);
+        let walk = load_boots(alloc, start, rounds, bound)?;
+        let kept = AtCuts::of(alloc, start, rounds.count(), bound)?;
         Ok(TreeExplorer {
             start,
             digest: None,
             choice,
             bound,
             rows: Rows::fresh(walk, kept),
-            last: X::none(),
+            last: Cuts::none(),
             labels: Labels::of(start),
             line: RowLine::new(),
         })
@@ -110,21 +114,23 @@ impl<'a, F: Flash + Drop, X: OfStart<'a>> TreeExplorer<'a, F, X> {
         ensures cheap { IfOk result (λ explorer. X.subject.IsCheap start.now.rules
             start.now.geometry bound explorer.usage.applied) }
         ensures exact { IfOk result (λ explorer. F.counted ≡ true → explorer.usage.limits
-            ≡ limits_for start.now.rules.grain start.now.geometry (bound + X.more)) }
+            ≡ limits_for start.now.rules.grain start.now.geometry (bound + more_of (X.edge.rounds_in choice))) }
     {
-        let mut walk: Walk<F, X> = load_walk(alloc, start, bound, choice)?;
+        let rounds = X::rounds_of(choice);
+        let mut walk = load_boots(alloc, start, rounds, bound)?;
         walk.begin()?;
-        if !X::follow(&mut walk, key)? {
+        if !X::follow(&mut walk, choice, key)? {
             return Err(ExploreError::CannotOccur);
         }
-        let kept = walk.flash_tree().kept(alloc, bound)?;
+        let kept = AtCuts::of(alloc, start, rounds.count(), bound)?;
+        let last = Cuts::along(&walk, &Schedule::of(walk.path().as_slice()));
         Ok(TreeExplorer {
             start,
             digest: None,
             choice,
             bound,
             rows: Rows::after(walk, kept),
-            last: *key,
+            last,
             labels: Labels::of(start),
             line: RowLine::new(),
         })
@@ -146,7 +152,7 @@ impl<'a, F: Flash + Drop, X: OfStart<'a>> TreeExplorer<'a, F, X> {
         requires { bound ≤ 16 }
         ensures stands { StandsBefore X.subject (begun start.now) choice bound key.now result }
         ensures exact { IfOk result (λ explorer. F.counted ≡ true → explorer.usage.limits
-            ≡ limits_for start.now.rules.grain start.now.geometry (bound + X.more)) }
+            ≡ limits_for start.now.rules.grain start.now.geometry (bound + more_of (X.edge.rounds_in choice))) }
     {
         match key_before::<F, X>(alloc, start, bound, choice, key)? {
             Some(last) => TreeExplorer::after(alloc, start, bound, choice, &last),
@@ -174,7 +180,7 @@ impl<'a, F: Flash + Drop, X: OfStart<'a>> TreeExplorer<'a, F, X> {
         ensures cheap { IfOk result (λ explorer. X.subject.IsCheap start.now.rules
             start.now.geometry bound explorer.usage.applied) }
         ensures exact { IfOk result (λ explorer. F.counted ≡ true → explorer.usage.limits
-            ≡ limits_for start.now.rules.grain start.now.geometry (bound + X.more)) }
+            ≡ limits_for start.now.rules.grain start.now.geometry (bound + more_of (X.edge.rounds_in choice))) }
     {
         let fields = X::fields(cursor);
         check_cursor::<X>(start, bound, choice, &fields)?;
@@ -201,7 +207,7 @@ impl<'a, F: Flash + Drop, X: Subject> TreeExplorer<'a, F, X> {
             choice: self.choice,
             digest,
             bound: self.bound,
-            key: self.last,
+            key: X::key_of(&self.last),
         })
     }
 
@@ -211,7 +217,7 @@ impl<'a, F: Flash + Drop, X: Subject> TreeExplorer<'a, F, X> {
         ensures { let rows = rows_of X.subject in let s = self.now.state in
             (row : X.Shown) → rows.IsRow s row → rows.Restarts s row }
     {
-        self.rows.flash_tree().restarts();
+        X::restarts();
     }
 
     /// The next row, and none where there is no further one.
@@ -236,15 +242,14 @@ impl<'a, F: Flash + Drop, X: Subject> TreeExplorer<'a, F, X> {
         ensures explores { Explores F.counted self.old result self.new }
         ensures err { IfErr result (λ e. (e ≡ ExploreError.Memory) ⊎ (e ≡ ExploreError.Failed)) }
     {
-        self.rows.flash_tree().restarts();
+        X::restarts();
         let _counted_up = self.rows.next()?;
         self.line.clear();
         let Some(row) = self.rows.row() else {
             return Ok(None);
         };
-        let row = *row;
-        self.last = X::key(&row);
-        Ok(Some(row))
+        self.last = row.cuts;
+        Ok(Some(X::row(row)))
     }
 
     /// The flash as it is.
@@ -265,6 +270,18 @@ fn comes_before<X: Subject>(row: &X::Row, until: &Option<X::Key>) -> bool
 {
     match until {
         Some(key) => X::is_before(row, key),
+        None => true,
+    }
+}
+
+// The same of a row of boots.
+#[inline]
+fn is_shown<X: Subject>(row: &BootRow, until: &Option<X::Key>) -> bool
+    ensures { (result ≡ true) ↔ IsBefore (rows_of X.subject) until.now
+        (X.subject.key (X.edge.shown_of row.now)) }
+{
+    match until {
+        Some(key) => X::is_before(&X::row(row), key),
         None => true,
     }
 }
@@ -322,8 +339,8 @@ impl<'a, F: Flash + Drop, X: Subject> TreeExplorer<'a, F, X> {
             self.line.clear();
             return Ok(false);
         };
-        self.last = X::key(row);
-        if !comes_before::<X>(row, until) {
+        self.last = row.cuts;
+        if !is_shown::<X>(row, until) {
             self.line.clear();
             return Ok(false);
         }

@@ -1,36 +1,28 @@
-//! The walk from a start through the tree of a subject, and whether a cursor is one of that start.
+//! The walk from a start through its boots, and whether a cursor is one of that start.
 ghost use Rattle.std.specs.Prelude.{◌≡◌, ◌+◌, ◌≤◌, true, IfOk, IfErr, OnOk};
+ghost use Rattle.mc_flash.specs.Geometry.{IsLayout};
 ghost use Rattle.mc_flash.specs.Usage.{limits_for};
 ghost use Rattle.mc_start.specs.Start.{begun};
-ghost use Rattle.mc_explore.specs.inner.Exploring.{IsLoaded};
+ghost use Rattle.mc_explore.specs.inner.BootTree.{begins_of, model_of, more_of};
+ghost use Rattle.mc_explore.specs.inner.Exploring.{IsLoaded, LoadsFor};
+ghost use Rattle.mc_explore.specs.inner.View as view;
 ghost use Rattle.mc_explore.specs.Subject.{Names, RefusesCursor};
 
 use crate::error::ExploreError;
-use crate::subject::{Fields, OfStart, Subject};
+use crate::one_round::OneRound;
+use crate::rounds::{BootTree, Rounds};
+use crate::subject::{Fields, Subject};
 use mc_flash::Flash;
 use mc_start::Start;
 use mc_walk::Walk;
 use std::alloc::{AllocError, Global};
 
-/// Loads the flash of a start for so many boots, for a walk through its tree along paths of at most so many steps.
-///
-/// # Errors
-///
-/// Where an allocation failed.
-pub fn load_for<F: Flash, X: Subject>(
-    alloc: Global,
-    start: &Start,
-    flash_tree: X,
-    bound: u8,
-    boots: u32,
-) -> Result<Walk<F, X>, AllocError>
-    requires boots { (bound + X.more ≤ boots) × (boots ≤ 32) }
-    requires start { X.begins flash_tree ≡ begun start.now }
-    ensures loaded { IfOk result (IsLoaded X.model X.begins X.choice F.counted (begun start.now)
-        (X.choice flash_tree) bound) }
-    ensures tree { IfOk result (λ walk. walk.flash_tree ≡ flash_tree) }
-    ensures exact { IfOk result (λ walk. F.counted ≡ true → walk.seen.usage.limits
-        ≡ limits_for start.now.rules.grain start.now.geometry boots) }
+// Loads the flash of a start for so many boots.
+fn load_flash<F: Flash>(alloc: Global, start: &Start, boots: u32) -> Result<F, AllocError>
+    requires { (1 ≤ boots) × (boots ≤ 32) }
+    ensures loads { IfOk result (λ flash. LoadsFor F.counted (begun start.now) boots
+        (F.seen flash)) }
+    ensures valid { IsLayout start.now.geometry }
 {
     let layout = *start.layout();
     // Reading a field gives the prover that it is a layout.
@@ -38,50 +30,69 @@ pub fn load_for<F: Flash, X: Subject>(
     let grain = start.rules().grain;
     let (primary, secondary) = (start.primary(), start.secondary());
     let flash = F::load(alloc, &layout, grain, primary, secondary, boots)?;
-    Walk::start(alloc, flash_tree, usize::from(bound), flash)
+    Ok(flash)
 }
 
-/// The same, for so many boots more than there are steps in a path as the subject says.
+/// Loads the flash of a start for so many boots, for a walk from there along schedules of at most so many cuts.
 ///
 /// # Errors
 ///
 /// Where an allocation failed.
-pub(crate) fn load_tree<F: Flash, X: Subject>(
+pub fn load_for<F: Flash>(
     alloc: Global,
     start: &Start,
-    flash_tree: X,
     bound: u8,
-) -> Result<Walk<F, X>, AllocError>
-    requires bound { bound ≤ 17 }
-    requires start { X.begins flash_tree ≡ begun start.now }
-    ensures loaded { IfOk result (IsLoaded X.model X.begins X.choice F.counted (begun start.now)
-        (X.choice flash_tree) bound) }
-    ensures tree { IfOk result (λ walk. walk.flash_tree ≡ flash_tree) }
+    boots: u32,
+) -> Result<Walk<F, OneRound<'_>>, AllocError>
+    requires { (bound + 1 ≤ boots) × (boots ≤ 32) }
+    ensures loaded { IfOk result (view.IsLoaded F.counted (begun start.now) bound) }
     ensures exact { IfOk result (λ walk. F.counted ≡ true → walk.seen.usage.limits
-        ≡ limits_for start.now.rules.grain start.now.geometry (bound + X.more)) }
+        ≡ limits_for start.now.rules.grain start.now.geometry boots) }
 {
-    let boots = u32::from(bound) + flash_tree.more();
-    load_for(alloc, start, flash_tree, bound, boots)
+    let flash = load_flash::<F>(alloc, start, boots)?;
+    Walk::start(alloc, OneRound { start }, usize::from(bound), flash)
 }
 
-/// The same, for the tree from that start, under a choice.
+/// Loads the flash of a start for one boot more than there are cuts, for a walk from there along schedules.
 ///
 /// # Errors
 ///
 /// Where an allocation failed.
-pub fn load_walk<'a, F: Flash, X: OfStart<'a>>(
+pub fn load_walk<F: Flash>(
     alloc: Global,
-    start: &'a Start,
+    start: &Start,
     bound: u8,
-    choice: X::Choice,
-) -> Result<Walk<F, X>, AllocError>
+) -> Result<Walk<F, OneRound<'_>>, AllocError>
     requires { bound ≤ 17 }
-    ensures loaded { IfOk result (IsLoaded X.model X.begins X.choice F.counted (begun start.now)
-        choice bound) }
+    ensures loaded { IfOk result (view.IsLoaded F.counted (begun start.now) bound) }
     ensures exact { IfOk result (λ walk. F.counted ≡ true → walk.seen.usage.limits
-        ≡ limits_for start.now.rules.grain start.now.geometry (bound + X.more)) }
+        ≡ limits_for start.now.rules.grain start.now.geometry (bound + 1)) }
 {
-    load_tree(alloc, start, X::of(start, choice), bound)
+    load_for(alloc, start, bound, u32::from(bound) + 1)
+}
+
+/// Loads the flash of a start for a walk through its boots, along paths of at most so many cuts.
+///
+/// # Errors
+///
+/// Where an allocation failed.
+pub(crate) fn load_boots<F: Flash>(
+    alloc: Global,
+    start: &Start,
+    rounds: Rounds,
+    bound: u8,
+) -> Result<Walk<F, BootTree<'_>>, AllocError>
+    requires { bound ≤ 16 }
+    ensures rounds { IfOk result (λ walk. walk.flash_tree.rounds ≡ rounds) }
+    ensures loaded { IfOk result (IsLoaded model_of begins_of F.counted (begun start.now) bound) }
+    ensures exact { IfOk result (λ walk. F.counted ≡ true → walk.seen.usage.limits
+        ≡ limits_for start.now.rules.grain start.now.geometry (bound + more_of rounds)) }
+{
+    let boots = u32::from(bound) + rounds.more();
+    let flash = load_flash::<F>(alloc, start, boots)?;
+    let one_round = OneRound { start };
+    let flash_tree = BootTree { one_round, rounds };
+    Walk::start(alloc, flash_tree, usize::from(bound), flash)
 }
 
 /// Whether a cursor is one of this start, this choice and this bound.

@@ -13,8 +13,8 @@ use crate::picture_rows::Look;
 use crate::sections::{pre_begin, write_sections};
 use crate::trace::Span;
 use mc_explore::{
-    Census, Expectation, OneRound, Rights, Schedule, Start, census_line, load_walk, replay,
-    rights_line, take_census, take_rights,
+    Census, Expectation, OneRound, Rights, Schedule, Schedules, Start, census_line, load_walk,
+    replay, rights_line, take_census, take_rights,
 };
 use mc_flash::{Flash, Layout, Slot};
 use mc_output::{Line, write_line, write_text};
@@ -38,11 +38,11 @@ fn verdict_of<F: Flash>(
     ensures verdict { IfOk result (IsVerdict expectation.now (begun start.now)) }
     ensures err { IfErr result (λ e. e ≡ TraceError.Memory) }
 {
-    let rights = match take_rights::<F, OneRound<'_>>(alloc, start, 16, (), expectation) {
+    let rights = match take_rights::<F, Schedules>(alloc, start, 16, (), expectation) {
         Ok(rights) => rights,
         Err(_) => return Err(TraceError::Memory),
     };
-    match take_census::<F, OneRound<'_>>(alloc, start, 16, ()) {
+    match take_census::<F, Schedules>(alloc, start, 16, ()) {
         Ok(census) => Ok(Verdict { census, rights }),
         Err(_) => Err(TraceError::Memory),
     }
@@ -72,7 +72,7 @@ fn intro_line(schedule: &Schedule, rights: &Rights) -> Line
     schedule.put_into(&mut line);
     line.put("</h1>\n");
     line.put(pre_begin(rights.first_not_right.is_none()));
-    line.put(rights_line::<OneRound<'_>>(rights).as_str());
+    line.put(rights_line::<Schedules>(rights).as_str());
     line
 }
 
@@ -88,7 +88,7 @@ fn write_opening<W: Write>(
 {
     write_text(writer, HEAD.as_bytes())?;
     write_line(writer, &intro_line(schedule, &verdict.rights))?;
-    write_line(writer, &census_line::<OneRound<'_>>(&verdict.census))?;
+    write_line(writer, &census_line::<Schedules>(&verdict.census))?;
     write_text(writer, LEGEND.as_bytes())?;
     Ok(())
 }
@@ -146,7 +146,7 @@ pub fn write_picture<F: Flash + Drop, W: Write>(
     let verdict = verdict_of::<F>(alloc, start, expectation)?;
     let look = look_for(start.layout(), expectation, span);
     let boots = schedule.cuts().len() as u8 + 1;
-    let mut walk: Walk<F, OneRound<'_>> = load_walk(alloc, start, boots, ())?;
+    let mut walk: Walk<F, OneRound<'_>> = load_walk(alloc, start, boots)?;
     walk.begin()?;
     write_page(&mut walk, &verdict, start, schedule, &look, writer)
 }

@@ -27,7 +27,7 @@ fn walk_to<'a, F: Flash>(
     ensures more { IfOk result (λ walk. length walk.path < walk.bound) }
 {
     let cuts = schedule.cuts();
-    let mut walk: Walk<F, OneRound<'a>> = load_walk(alloc, start, cuts.len() as u8 + 1, ())?;
+    let mut walk: Walk<F, OneRound<'a>> = load_walk(alloc, start, cuts.len() as u8 + 1)?;
     walk.begin()?;
     walk.follow(cuts)?;
     Ok(walk)

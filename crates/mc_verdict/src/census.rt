@@ -12,7 +12,7 @@ use crate::explore::{ends, images_return};
 use crate::verdict::{Asked, right_if_asked, write_lines};
 use clap::ArgMatches;
 use mc_explore::{
-    CensusOf, Countable, Expectation, RightsOf, Start, each_boots, take_census, take_rights,
+    CensusOf, Expectation, RightsOf, Start, Subject, each_boots, take_census, take_rights,
     write_census,
 };
 use mc_flash::JournalFlash;
@@ -46,7 +46,7 @@ pub struct Counts<K> {
 /// # Errors
 ///
 /// `Explore` where memory failed.
-fn rights_if<X: Countable>(
+fn rights_if<X: Subject>(
     alloc: Global,
     start: &Start,
     cuts: u8,
@@ -132,7 +132,7 @@ impl Wanted<()> {
 /// # Errors
 ///
 /// `Expectation`; `Explore` where memory failed.
-pub fn count<X: Countable>(
+pub fn count<X: Subject>(
     alloc: Global,
     wanted: &Wanted<X::Choice>,
 ) -> Result<Counts<X::Key>, Refusal>
@@ -157,7 +157,7 @@ pub fn count<X: Countable>(
 ///
 /// Those of `count`; `Write` where the output cannot be written. With `--all-boot` also `NotAllBoot` where one does not end
 /// in a boot, and with `--all-right` `NotAllRight` where one is not right; the output is written then.
-pub fn run<X: Explorable + Countable, O: Write>(
+pub fn run<X: Explorable, O: Write>(
     wanted: &Wanted<X::Choice>,
     alloc: Global,
     out: &mut O,

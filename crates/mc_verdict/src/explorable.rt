@@ -1,7 +1,7 @@
 //! The kinds of trees that commands explore, and what the options say of each.
 use clap::ArgMatches;
-use mc_campaign::{Campaign, CampaignCursor, TwoRounds};
-use mc_explore::{Cursor, Kind, OneRound, Schedule, Subject};
+use mc_campaign::{Campaign, CampaignCursor, Campaigns};
+use mc_explore::{Cursor, Kind, Schedule, Schedules, Subject};
 use mc_options::{RangeOptions, Refusal, range_options};
 
 /// A kind of tree that commands explore.
@@ -34,7 +34,7 @@ pub trait Explorable: Subject {
         ensures { result ≡ images_return kind choice };
 }
 
-impl Explorable for OneRound<'_> {
+impl Explorable for Schedules {
     ghost use Rattle.std.specs.Prelude.{◌≡◌, IfOk, false};
     ghost use Rattle.clap.specs.Matches.{found_of};
     ghost use Rattle.mc_explore.specs.Rows.{subject};
@@ -62,7 +62,7 @@ impl Explorable for OneRound<'_> {
     }
 }
 
-impl Explorable for TwoRounds<'_> {
+impl Explorable for Campaigns {
     ghost use Rattle.std.specs.Prelude.{◌≡◌, IfOk, codes};
     ghost use Rattle.clap.specs.Matches.{found_of};
     ghost use Rattle.mc_campaign.specs.Rows.{campaigns};

@@ -15,7 +15,7 @@ use crate::verdict::{Asked, right_if_asked, write_lines};
 use clap::ArgMatches;
 use mc_boot::ImageId;
 use mc_explore::{
-    Expectation, ExploreError, OfStart, RightsOf, Start, Subject, TallyOf, TreeExplorer, all_boot,
+    Expectation, ExploreError, RightsOf, Start, Subject, TallyOf, TreeExplorer, all_boot,
     survey_rows, write_rows, write_tally,
 };
 use mc_flash::JournalFlash;
@@ -112,7 +112,7 @@ impl<C: Copy, U: Copy, K: Copy> Exploration<C, U, K> {
 /// # Errors
 ///
 /// `Explore` where the cursor or the key does not serve here, or an allocation failed.
-fn explorer<'a, X: Explorable + OfStart<'a>>(
+fn explorer<'a, X: Explorable>(
     exploration: &'a Exploration<X::Choice, X::Cursor, X::Key>,
     alloc: Global,
 ) -> Result<TreeExplorer<'a, JournalFlash, X>, Refusal>
@@ -138,7 +138,7 @@ fn explorer<'a, X: Explorable + OfStart<'a>>(
 /// # Errors
 ///
 /// Those of `explorer`, and `Explore` where memory failed, or the output cannot be written.
-fn print<'a, X: Explorable + OfStart<'a>, O: Write + Drop>(
+fn print<'a, X: Explorable, O: Write + Drop>(
     exploration: &'a Exploration<X::Choice, X::Cursor, X::Key>,
     alloc: Global,
     out: O,
@@ -169,7 +169,7 @@ fn print<'a, X: Explorable + OfStart<'a>, O: Write + Drop>(
 /// # Errors
 ///
 /// Those of `explorer`, and `Explore` where memory failed.
-fn tally<'a, X: Explorable + OfStart<'a>>(
+fn tally<'a, X: Explorable>(
     exploration: &'a Exploration<X::Choice, X::Cursor, X::Key>,
     alloc: Global,
     expectation: &Expectation,
@@ -189,7 +189,7 @@ fn tally<'a, X: Explorable + OfStart<'a>>(
 /// # Errors
 ///
 /// `Expectation`; those of `tally`.
-fn counts<'a, X: Explorable + OfStart<'a>>(
+fn counts<'a, X: Explorable>(
     exploration: &'a Exploration<X::Choice, X::Cursor, X::Key>,
     alloc: Global,
     asked: &Asked,
@@ -238,7 +238,7 @@ pub fn ask<X: Explorable, F: Files>(
 /// `Expectation`; `Explore` where memory failed, or the page cannot be written; `Write` of the lines after it. What is asked of the rows is
 /// refused as of a survey,
 /// once the page is out.
-pub fn run<'a, X: Explorable + OfStart<'a>, O: Write>(
+pub fn run<'a, X: Explorable, O: Write>(
     exploration: &'a Exploration<X::Choice, X::Cursor, X::Key>,
     asked: &Asked,
     alloc: Global,
@@ -265,7 +265,7 @@ pub fn run<'a, X: Explorable + OfStart<'a>, O: Write>(
 /// `Expectation`; `Explore` where memory failed; `Write`.
 /// With `--all-boot` also `NotAllBoot` where a row does not end in a boot, with `--all-right` `NotAllRight` where one is not right,
 /// and with either `NotWhole` where the page would go on; the output is written then.
-pub fn survey<'a, X: Explorable + OfStart<'a>, O: Write>(
+pub fn survey<'a, X: Explorable, O: Write>(
     exploration: &'a Exploration<X::Choice, X::Cursor, X::Key>,
     asked: &Asked,
     alloc: Global,

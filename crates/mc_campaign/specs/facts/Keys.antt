@@ -1,44 +1,65 @@
 -- Campaigns are the paths of the tree of two rounds.
-use Rattle.std.specs.Prelude.{◌≡◌, ◌≤◌, ◌+◌, ℕ, Bool, List, refl}
-use Rattle.std.proofs.Common.{arith, ap}
-use Rattle.mc_tree.specs.Tree.{round_one}
-use Rattle.mc_boot.specs.Plan.{PowerOn}
-use Rattle.mc_flash.specs.Usage.{Seen}
-use Rattle.mc_start.specs.{Start.{on_last}, facts.Counting.{on_last-twice}}
-use Rattle.mc_campaign.specs.facts.Cuts.{number_later}
-use Rattle.mc_walk.specs.Walks.{IsClear}
-use Rattle.mc_explore.specs.inner.Exploring.{AreKeys, LoadsFor}
-use Rattle.mc_campaign.specs.{inner.TwoRounds.{two_rounds_model}, Rows.{ShownRow, most_for_row, campaigns}}
-use Rattle.mc_campaign.specs.Rounds.{cuts_along}
-use Rattle.mc_campaign.specs.facts.Paths.{listed_along, path_of, same_order}
-use Rattle.mc_explore.specs.{Rounds.{tree_of}, facts.BootRoom.{clear}}
+use Rattle.std.specs.Prelude.{Bool, List, None, Option, Some, codes, option_map, refl, ℕ, ◌++◌, ◌+◌, ◌≡◌, ◌≤◌}
+use Rattle.std.proofs.Common.{ap, arith, length, subst, sym, ◌∙◌}
+use Rattle.mc_boot.specs.{Outcome.{outcome_of, shown}, Plan.{PowerOn}, declared.outcome.Outcome.{Outcome}, facts.Run.{outcome_defined}}
+use Rattle.mc_campaign.specs.{Campaigns.{IsMember, Precedes}, Rounds.{cuts_along}, Rows.{HasOutcomes, campaigns}, Texts.{campaign_text}, inner.InRounds.{campaign_of, edge, first_or}}
+use Rattle.mc_campaign.specs.facts.{Cuts.{along_ordered}, InRounds.{next_campaign, rounds_back}, Listed.{all_rows, row_at, some_rest}, Paths.{listed_along, path_of, replayed_at, same_order}}
+use Rattle.mc_explore.specs.{Boots.{boots}, Rounds.{second_start, tree_of}, Rows.{outcome_text, slots_text}, declared.boot_row.BootRow.{BootRow}, declared.boot_row.Cuts.{Cuts}}
+use Rattle.mc_explore.specs.inner.{BootEnds.{report_in}, BootRows.{CanCountUp, IsRowOf, counted_up, tree_in}, BootTree.{began_at, later_from, root_of}, Exploring.{AreKeys, AreNextTexts, IsFamily, key_along}}
+use Rattle.mc_tree.specs.{Tree.{Allowed, landed, round_one}, facts.Order.{pairs_in_order}}
 use Rattle.mc_explore.specs.declared.rounds.Rounds.TheVariants as kinds
 
--- A row whose last cut is counted up by so much, and by more.
-abbrev with_campaign : ShownRow → List (ℕ × ℕ) → ShownRow
-with_campaign row c = record { campaign = c; first = row.first; second = row.second }
-
-abbrev pub counted_up : ℕ → ShownRow → ShownRow
-counted_up j row = with_campaign row (on_last (number_later j) row.campaign)
-
-pub row_up : (row : ShownRow) (j : ℕ) → counted_up (j + 1) (counted_up 1 row) ≡ counted_up (j + 2) row
-row_up row j = ap (with_campaign row) (on_last-twice (number_later 1) (number_later (j + 1)) (number_later (j + 2)) (λ c. ap (λ n. (c.0, n)) (omega arith)) row.campaign)
+-- There is a first round, and so it ends.
+first_is : (x : PowerOn) (first : Option Outcome) (last : Outcome) → outcome_of x ≡ option_map shown first → outcome_of x ≡ Some (shown (first_or first last))
+first_is x (Some first) last is = is
+first_is x None last is = absurd (let some = (outcome_defined x).1 in cc)
 
 module _ (start : PowerOn) (confirms : Bool) where
-  pub are_campaigns : AreKeys campaigns (tree_of confirms) (round_one start) start confirms (cuts_along confirms start)
+  -- The campaign of the cuts along a path has these.
+  pub key_is : (path : List ℕ) → key_along campaigns edge start confirms path ≡ cuts_along confirms start path
+  key_is path = rounds_back (cuts_along confirms start path) (along_ordered boots (second_start confirms) (round_one start) path)
+
+  are_campaigns : AreKeys campaigns (tree_of confirms) (round_one start) start confirms (key_along campaigns edge start confirms)
   are_campaigns = record {
-    listed = λ bound path m. (listed_along confirms start bound path m).0;
-    path_of = λ bound k m. let p = path_of confirms start bound k m in (p.0, p.1.member, p.1.cuts_are);
-    order = λ bound path other m n. same_order confirms start bound path other _ _ (record { member = m; cuts_are = refl }) (record { member = n; cuts_are = refl });
+    listed = λ bound path m. subst (IsMember start confirms bound) (sym (key_is path)) (listed_along confirms start bound path m).0;
+    path_of = λ bound k m. let p = path_of confirms start bound k m in (p.0, p.1.member, key_is p.0 ∙ p.1.cuts_are);
+    order = λ bound path other m n.
+        let same = same_order confirms start bound path other _ _ (record { member = m; cuts_are = refl }) (record { member = n; cuts_are = refl }) in (
+          λ before. same.0 (subst (λ z. Precedes z (cuts_along confirms start other)) (key_is path) (subst (Precedes (key_along campaigns edge start confirms path)) (key_is other) before)),
+          λ before.
+              let there = subst (λ z. Precedes z (cuts_along confirms start other)) (sym (key_is path)) (same.1 before) in
+              subst (Precedes (key_along campaigns edge start confirms path)) (sym (key_is other)) there,
+        );
     none = refl;
   }
 
-  pub campaign_costs : (two_rounds_model start confirms).step + (two_rounds_model start confirms).all.entries ≤ most_for_row start.rules start.geometry
-  campaign_costs = omega arith
+  has_outcomes : (path : List ℕ) (row : BootRow) → Allowed (tree_of confirms) (round_one start) path → IsRowOf (kinds.Two confirms) start path row → HasOutcomes start confirms (edge.shown_of row)
+  has_outcomes path row allowed is =
+      let key = ap campaign_of is.cuts_are ∙ key_is path in
+      replayed_at confirms start (length path) path (campaign_of row.cuts) _ _ (record { member = (omega arith, allowed); cuts_are = sym key })
+      (first_is (began_at (landed (tree_of confirms) (round_one start) path)) row.ends.first row.ends.last is.ends_so.first) is.ends_so.last
 
-  -- A flash that was loaded for three boots more than there are cuts, or for more, serves for a walk.
-  pub campaigns_clear : (counted : Bool) (bound boots : ℕ) (f : Seen) → bound + 3 ≤ boots → LoadsFor counted start boots f → IsClear (two_rounds_model start confirms) bound f
-  campaigns_clear counted bound boots f at_most l = clear start counted bound boots f l (kinds.Two confirms) at_most
+next_texts : (row : BootRow) → CanCountUp row → AreNextTexts campaigns (edge.shown_of row) (edge.shown_of (counted_up 1 row))
+next_texts row can =
+    let one = shown (first_or row.ends.first row.ends.last) in
+    let two = shown row.ends.last in
+    record {
+      key = next_campaign row.cuts.in_first row.cuts.numbers can;
+      rest = codes " " ++ (outcome_text one ++ (codes " " ++ (outcome_text two ++ (codes " " ++ slots_text two))));
+      old_is = refl;
+      new_is = refl;
+    }
 
-pub three_more : (1 ≤ 3) × (3 ≤ 15)
-three_more = (omega arith, omega arith)
+pub campaigns_are_family : IsFamily campaigns edge
+campaigns_are_family = record {
+  keys = are_campaigns;
+  order = pairs_in_order;
+  some_rest = some_rest;
+  key_is = λ row. refl;
+  outcomes = has_outcomes;
+  texts = next_texts;
+  all_rows = all_rows;
+  all_keys = λ start confirms path. sym (key_is start confirms path);
+  all_ends = λ start confirms path. refl;
+  costs = λ start confirms. omega arith;
+}

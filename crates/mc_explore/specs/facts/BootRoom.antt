@@ -6,7 +6,7 @@ use Rattle.mc_flash.specs.{Geometry.{Geometry}, Usage.{Seen, Usage, most_operati
 use Rattle.mc_flash.specs.declared.flash.Grain.TheVariants as grains
 use Rattle.mc_start.specs.facts.Room.{limits_are}
 use Rattle.mc_walk.specs.Walks.{IsClear}
-use Rattle.mc_explore.specs.{declared.rounds.Rounds.{Rounds}, inner.Exploring.{LoadsFor}, inner.BootTree.{boot_model, more_of}}
+use Rattle.mc_explore.specs.{declared.rounds.Rounds.{Rounds}, inner.Exploring.{LoadsFor}, inner.BootTree.{boot_model, more_of}, inner.OneRound.{one_round}}
 use Rattle.mc_explore.specs.declared.rounds.Rounds.TheVariants as kinds
 
 -- A boot makes some operation at most.
@@ -15,9 +15,9 @@ some_operations grains.Call g = omega arith
 some_operations grains.Unit g = omega arith
 
 module _ (start : PowerOn) (counted : Bool) (bound boots_for : ℕ) (f : Seen) (l : LoadsFor counted start boots_for f) where
-  -- A flash that was loaded for so many boots more than there are cuts, or for more, serves for a walk.
-  pub clear : (rounds : Rounds) → bound + more_of rounds ≤ boots_for → IsClear (boot_model start rounds) bound f
-  clear kinds.One at_most =
+  -- A flash that was loaded for so many boots more than there are cuts, or for more, serves for a walk: through one round, along schedules too.
+  pub clear_one : bound + 1 ≤ boots_for → IsClear (one_round start) bound f
+  clear_one at_most =
       let g = start.geometry in
       let grain = start.rules.grain in
       let limits = limits_are grain g boots_for f.usage.limits l.room in
@@ -28,6 +28,16 @@ module _ (start : PowerOn) (counted : Bool) (bound boots_for : ℕ) (f : Seen) (
         none = l.none;
         counts = ap (λ (x : Usage). x.counts) l.usage_is;
         roomy = record { entries = omega (arith, limits.for_entries, entries); saved = omega (arith, limits.for_saved, saved); checkpoints = omega (arith, limits.for_checkpoints, at_most) };
+      }
+
+  pub clear : (rounds : Rounds) → bound + more_of rounds ≤ boots_for → IsClear (boot_model start rounds) bound f
+  clear kinds.One at_most =
+      let one = clear_one at_most in
+      record {
+        root = record { content_is = one.root.content_is; layout_is = one.root.layout_is };
+        none = one.none;
+        counts = one.counts;
+        roomy = record { entries = one.roomy.entries; saved = one.roomy.saved; checkpoints = one.roomy.checkpoints };
       }
   clear (kinds.Two confirms) at_most =
       let g = start.geometry in

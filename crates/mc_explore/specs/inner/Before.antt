@@ -1,7 +1,7 @@
 -- What comes before a path, and before a key.
 use Rattle.std.specs.Prelude.{Bool, List, None, Option, Some, [], false, true, ℕ, ◌++◌, ◌≡◌}
 use Rattle.mc_boot.specs.Plan.{PowerOn}
-use Rattle.mc_explore.specs.Subject.{Subject}
+use Rattle.mc_explore.specs.{Subject.{Subject}, inner.BootRows.{tree_in}, inner.BootTree.{root_of}, inner.Exploring.{Edge, key_along}}
 use Rattle.mc_tree.specs.{Tree.{After, AtStart, IsMember, IsNext, Position}, facts.Order.{AllLast, HasNoChild}}
 use Rattle.mc_walk.specs.{TreeModel.{TreeModel}, Walks.{IsPath, IsSame, Walked, node_at}}
 
@@ -21,11 +21,11 @@ module _ {B N A T : Type 0} (k : TreeModel N A T) where
   GoesBefore path old true new = IsNext (IsPath k old) (After new.path) path × IsPath k old new.path × IsSame old new × (new.stands ≡ true)
   GoesBefore path old false new = path ≡ []
 
-module _ {B C K R U N A T : Type 0} (x : Subject C K R U) (model : B → TreeModel N A T) (begins : B → PowerOn) (choice : B → C) (key_of : B → List ℕ → K) (b : B) (bound : ℕ) (k : K) where
+module _ {C K R U : Type 0} (x : Subject C K R U) (edge : Edge C K R) (start : PowerOn) (chosen : C) (bound : ℕ) (k : K) where
   -- That is the path of a key; or it is none of those to go through.
-  abbrev pub IsPathOf : Option (List ℕ) → Type 0
-  IsPathOf (Some path) = IsMember (model b).tree (model b).root bound path × (key_of b path ≡ k)
-  IsPathOf None = x.IsListed (begins b) (choice b) bound k → ⊥
+  abbrev pub IsPathOfKey : Option (List ℕ) → Type 0
+  IsPathOfKey (Some path) = IsMember (tree_in (edge.rounds_in chosen)) (root_of (edge.rounds_in chosen) start) bound path × (key_along x edge start chosen path ≡ k)
+  IsPathOfKey None = x.IsListed start chosen bound k → ⊥
 
 -- The position after a key, or at the start.
 abbrev pub place_of : {K : Type 0} → Option K → Position K

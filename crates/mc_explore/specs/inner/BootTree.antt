@@ -62,6 +62,11 @@ abbrev pub more_of : Rounds → ℕ
 more_of kinds.One = 1
 more_of (kinds.Two confirms) = 3
 
+-- From one child to the next there is one operation, and between the rounds a write more.
+abbrev pub step_of : Rounds → ℕ
+step_of kinds.One = 1
+step_of (kinds.Two confirms) = 2
+
 -- There is a first round.
 abbrev pub HasFirst : Rounds → Type 0
 HasFirst kinds.One = ⊥
@@ -135,7 +140,6 @@ module _ (start : PowerOn) (rounds : Rounds) where
       (sym (child_second boots (second_start (confirms_of rounds)) x i on.0)) (record { entries = omega arith; saved = omega arith })
   owed_more (round_two began x) i (child_boots.Second boot) on = record { entries = omega arith; saved = omega arith }
 
-  -- From one child to the next there is one operation, and between the rounds a write more.
   abbrev pub boot_model : TreeModel (RoundNode PowerOn) ChildBoot Both
   boot_model = record {
     tree = tree_of (confirms_of rounds);
@@ -144,7 +148,7 @@ module _ (start : PowerOn) (rounds : Rounds) where
     content = λ p. (boot_at p).content;
     IsOn = λ p i child_boot. IsChildBoot child_boot p i;
     IsSummary = AreSummaries;
-    step = 2;
+    step = step_of rounds;
     owed = owed_at start rounds;
     all = all_of start rounds;
     all_is = owed_all start rounds;

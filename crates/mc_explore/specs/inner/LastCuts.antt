@@ -1,6 +1,6 @@
 -- The rows of the longest paths: what is told after their last steps is found among what is told of the children of another node.
 use Rattle.std.specs.Prelude.{length, slice_get, ◌-◌, IfSome, List, None, Option, Some, [], ℕ, ◌++◌, ◌+◌, ◌<◌, ◌^◌, ◌∷◌, ◌≡◌, ◌≤◌, ◌⊎◌}
-use Rattle.mc_boot.specs.{Outcome.{outcome_of, shown}, Plan.{PowerOn}, SharedTail.{index_in_parent}, declared.outcome.Outcome.{Outcome}, declared.shared_tail.SharedTail.{SharedTail}}
+use Rattle.mc_boot.specs.{Plan.{PowerOn}, SharedTail.{index_in_parent}, declared.shared_tail.SharedTail.{SharedTail}}
 use Rattle.mc_explore.specs.{declared.at_cuts.AtCuts.{AtCuts}, declared.at_cuts.Joined.{Joined}, declared.run.Run.{Run}, inner.Runs.{AreOf, IsIn}}
 use Rattle.mc_explore.specs.Boots.{boots}
 use Rattle.mc_tree.specs.Tree.{landed}
@@ -9,13 +9,6 @@ use Rattle.mc_walk.specs.TreeModel.{TreeModel}
 -- What the boot after a schedule begins with.
 abbrev pub boot_at : PowerOn → List ℕ → PowerOn
 boot_at from = landed boots from
-
--- Two schedules after which the boots begin with the same, and the outcome of the boot after a schedule.
-abbrev pub AreSame : PowerOn → List ℕ → List ℕ → Type 0
-AreSame from path other = boot_at from path ≡ boot_at from other
-
-abbrev pub HasOutcomeAt : PowerOn → List ℕ → Outcome → Type 0
-HasOutcomeAt from path outcome = outcome_of (boot_at from path) ≡ Some (shown outcome)
 
 -- Nothing is kept.
 abbrev pub IsNothing : {O : Type 0} → AtCuts O → Type 0

@@ -1,6 +1,6 @@
 -- The line of a row, as it is kept.
-use Rattle.std.specs.Prelude.{List, Option, Some, [], length, option_map, ℕ, ◌++◌, ◌+◌, ◌<◌, ◌∷◌, ◌≡◌, ◌≢◌, ◌≤◌, ◌⊎◌}
-use Rattle.mc_explore.specs.{Subject.{Subject}, inner.Exploring.{Rowed}}
+use Rattle.std.specs.Prelude.{List, Option, Some, [], length, ℕ, ◌++◌, ◌+◌, ◌<◌, ◌∷◌, ◌≡◌, ◌≢◌, ◌≤◌, ◌⊎◌}
+use Rattle.mc_explore.specs.{Subject.{Subject}, declared.boot_row.BootRow.{BootRow}, inner.Exploring.{Edge, Rowed}}
 use Rattle.mc_walk.specs.declared.tour.Phase.TheVariants.{Broken}
 
 -- Of a text the last of the first so many bytes is a digit below 9, and that of the other is the next digit; all else is the same.
@@ -13,10 +13,10 @@ abbrev pub IsLine : {C K R U : Type 0} → Subject C K R U → R → List ℕ �
 IsLine x row text key = (text ≡ x.row_text row ++ 10 ∷ []) × (key ≡ length (x.key_text (x.key row)))
 
 -- It is that of that row, or nothing.
-abbrev pub IsLineOf : {C K R U : Type 0} → Subject C K R U → Option R → List ℕ → ℕ → Type 0
-IsLineOf x row text key =
-    (text ≡ []) ⊎ ((r : _) × (row ≡ Some r) × IsLine x r text key)
+abbrev pub IsLineOf : {C K R U : Type 0} → Subject C K R U → Edge C K R → Option BootRow → List ℕ → ℕ → Type 0
+IsLineOf x edge row text key =
+    (text ≡ []) ⊎ ((r : BootRow) × (row ≡ Some r) × IsLine x (edge.shown_of r) text key)
 
 -- What is kept with rows that have not failed.
-abbrev pub KeepsLine : {B C K R U W : Type 0} → Subject C K R U → (W → R) → Rowed B W → List ℕ → ℕ → Type 0
-KeepsLine x shown rows text key = rows.phase ≢ Broken → IsLineOf x (option_map shown rows.row) text key
+abbrev pub KeepsLine : {B C K R U : Type 0} → Subject C K R U → Edge C K R → Rowed B BootRow → List ℕ → ℕ → Type 0
+KeepsLine x edge rows text key = rows.phase ≢ Broken → IsLineOf x edge rows.row text key

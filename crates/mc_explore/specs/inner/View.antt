@@ -15,7 +15,7 @@ IsDigestOf start digest = IfSome digest (λ d. d ≡ start_digest start)
 
 -- A walk along schedules that was just loaded for a start.
 abbrev pub IsLoaded : Bool → PowerOn → ℕ → Walked OneRound → Type 0
-IsLoaded counted start = loading.IsLoaded {C = Unit {0}} (λ o. one_round (begins o)) begins (λ o. tt) counted start tt
+IsLoaded = loading.IsLoaded (λ o. one_round (begins o)) begins
 
 -- A walk that has come along a schedule, from a start.
 pub record Followed (counted : Bool) (start : PowerOn) (bound : ℕ) (path : List ℕ) (w : Walked OneRound) : Type 0 where

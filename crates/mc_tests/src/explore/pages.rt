@@ -3,7 +3,7 @@ ghost use Rattle.std.specs.Prelude.{◌≤◌};
 
 use super::common::swap;
 use mc_explore::{
-    Census, Explorer, OneRound, Schedule, Start, last_row, survey, write_census, write_page,
+    Census, Explorer, Schedule, Schedules, Start, last_row, survey, write_census, write_page,
 };
 use mc_flash::{JournalFlash, SnapFlash};
 use std::alloc::Global;
@@ -133,6 +133,6 @@ fn a_number_that_was_cut_off_is_shown_so(rt: HostRuntime) {
         first_not_boot: Some(Schedule::read("0.17").expect(&rt, "a text")),
     };
     let mut shown = Vec::new(rt.alloc());
-    write_census::<OneRound, Vec<u8>>(&census, &mut shown).expect(&rt, "a writer");
+    write_census::<Schedules, Vec<u8>>(&census, &mut shown).expect(&rt, "a writer");
     assert_eq!(rt; shown.as_slice(), CUT_OFF.as_bytes());
 }

@@ -3,7 +3,7 @@ ghost use Rattle.std.specs.Prelude.{◌≤◌};
 
 use super::common::swap;
 use mc_campaign::CampaignExplorer;
-use mc_explore::{ExploreError, OneRound, Start, Subject, TreeExplorer, write_rows};
+use mc_explore::{ExploreError, Schedules, Start, Subject, TreeExplorer, write_rows};
 use mc_fixtures::{FAULTS, FailingWriter, Failure, Fault};
 use mc_flash::SnapFlash;
 use std::alloc::Global;
@@ -54,7 +54,7 @@ fn errors(
         );
         errors_of(rt, &mut explorer, limit, writer)
     } else {
-        let mut explorer = TreeExplorer::<SnapFlash, OneRound>::start(
+        let mut explorer = TreeExplorer::<SnapFlash, Schedules>::start(
             alloc,
             start,
             bound,

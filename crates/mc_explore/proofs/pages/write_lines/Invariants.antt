@@ -7,7 +7,7 @@ use Rattle.mc_explore.proofs.pages.write_lines.Given as goal
 abbrev pub invariant-fill : goal.invariant-fill
 invariant-fill g l =
     let x = g.X.Subject.subject in
-    let laws = are_lawful x g.met.X.Subject.order g.met.X.Subject.some_rest in
+    let laws = are_lawful x g.met.X.Subject.laws.order g.met.X.Subject.laws.some_rest in
     let cost = x.most_for_row l.fn.explorer.state.start.rules l.fn.explorer.state.start.geometry in
     record {
       page : AreOut (rows_of x) laws l.until l.fn.explorer.state l.limit (g.W.Write.contents l.fn.writer) l.explorer.state l.room (g.W.Write.contents l.writer);

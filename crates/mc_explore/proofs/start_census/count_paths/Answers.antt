@@ -21,4 +21,4 @@ returns g c =
     column by_bound c.in_ok-column.ensures.column.1 (omega (arith, c.in_ok-column.ensures.column.0, c.from.ensures, c.from-most.ensures)) ∙ ap (λ d. cut_off (by_bound d)) c.from.ensures in
     let is = root_weighs model_of walk now report_of e bound paths begins.same begins.path here in
     let P : Rounds → PowerOn → Type 0 = λ r x. paths ≡ cut_off (weigh (path_tree (tree_of (confirms_of r)) (root_of r x)) (report_in x r) e bound []) in
-    subst (P c.args.rounds) c.in_ok-walk.ensures.start (subst (λ r. P r (begins_of walk.flash_tree)) c.in_ok-walk.ensures.rounds is)
+    subst (P c.args.rounds) c.in_ok-walk.ensures.loaded.start_is (subst (λ r. P r (begins_of walk.flash_tree)) c.in_ok-walk.ensures.rounds is)

@@ -9,7 +9,7 @@ invariant-rows g l =
     let x = g.X.Subject.subject in
     let cost = x.most_for_row l.fn.explorer.state.start.rules l.fn.explorer.state.start.geometry in
     record {
-      counted : AreCounted x (are_lawful x g.met.X.Subject.order g.met.X.Subject.some_rest) l.expectation l.until l.fn.explorer.state l.limit l.explorer.state l.tally l.rights;
+      counted : AreCounted x (are_lawful x g.met.X.Subject.laws.order g.met.X.Subject.laws.some_rest) l.expectation l.until l.fn.explorer.state l.limit l.explorer.state l.tally l.rights;
       not_lost : l.explorer.state.position ≡ Lost → l.fn.explorer.state.position ≡ Lost;
       stuck : l.fn.explorer.state.position ≡ Lost → (l.explorer.state.position ≡ Lost) × (l.tally.rows < l.limit);
       still : l.explorer.state.position ≡ Lost → l.explorer ≡ l.fn.explorer;

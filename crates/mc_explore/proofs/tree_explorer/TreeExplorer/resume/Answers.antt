@@ -1,19 +1,18 @@
 use Rattle.std.proofs.Common.{ap, ◌∙◌}
 use Rattle.mc_start.specs.Start.{begun}
 use Rattle.mc_explore.specs.Subject.{Explored}
+use Rattle.mc_walk.specs.Walks.{position_of}
 use Rattle.mc_explore.proofs.Beginning.{same_digest}
 use Rattle.mc_explore.proofs.tree_explorer.TreeExplorer.resume.Goals as goal
 
 pub invariant_of-explorer : goal.invariant_of-explorer
-invariant_of-explorer g c =
-    let e = c.explorer.inside in (
-      c.explorer.invariant.0,
-      same_digest g.X.FlashTree.model g.X.Subject.begins g.X.Subject.choice g.X.Subject.key_of g.F.Flash.counted (begun e.start.now) e.choice e.bound e.rows e.last (begun c.args.start.now)
-          c.args.choice
-          c.args.bound c.fields-fields.result.key c.fields-fields.result.digest c.explorer.invariant.0
-          (ap (λ (z : Explored g.row.X-Choice.Denot g.row.X-Key.Denot). z.state) c.explorer.view_is ∙ c.in_ok-explorer.ensures.resumes.1) c.in_ok-check_cursor.ensures.names.digest_is,
-      c.explorer.invariant.2,
-    )
+invariant_of-explorer g c = let e = c.explorer.inside in (
+  c.explorer.invariant.0,
+  same_digest (begun e.start.now) e.choice e.bound e.rows.walk (position_of e.rows.phase (g.X.Subject.edge.key_in e.last)) _ _ _ _ _
+      (ap (λ (z : Explored g.row.X-Choice.Denot g.row.X-Key.Denot). z.state) c.explorer.view_is ∙ c.in_ok-explorer.ensures.resumes.1)
+      c.in_ok-check_cursor.ensures.names.digest_is,
+  c.explorer.invariant.2,
+)
 
 pub returns-clause-resumes : goal.returns-clause-resumes
 returns-clause-resumes g c = (
