@@ -135,7 +135,7 @@ impl<F: Files> Files for WatchedFiles<'_, F> {
     }
 }
 
-/// The same writer, with why its last write failed, if it did.
+/// The same writer, with why its last write, or handing on what it held, failed, if it did.
 #[derive(Drop)]
 pub struct WatchedWriter<W: Write + Drop> {
     writer: W,
@@ -171,6 +171,10 @@ impl<W: Write + Drop> Write for WatchedWriter<W> {
     }
 
     fn flush(&mut self) -> io::Result<()> {
-        self.writer.flush()
+        let flushed = self.writer.flush();
+        if let Err(error) = &flushed {
+            self.failure = Some(*error);
+        }
+        flushed
     }
 }

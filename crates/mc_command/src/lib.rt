@@ -17,9 +17,10 @@ use mc_campaign::Campaigns;
 use mc_cli::{WatchedFiles, WatchedWriter, left_out, parse};
 use mc_explore::Schedules;
 use mc_options::{
-    Refusal, asks_file, has_two_rounds, print_cost, print_note, report_file, report_reason,
+    Refusal, asks_file, flush, has_two_rounds, print_cost, print_note, report_file, report_reason,
     span_options, view_options, with_files,
 };
+use mc_output::WriteFailed;
 use mc_verdict::{census, explore};
 use std::alloc::Global;
 use std::io::{Read, Write};
@@ -28,7 +29,7 @@ use std::rt::Files;
 /// Runs one command line, whose first word is the program's name, and returns the exit status: 0 where it is done, 1
 /// where a content is refused, 2 where the command line is refused, 3 where a file, a write or memory fails.
 ///
-/// A refusal is one line on `err`, or clap's own text; with `--verbose` a second line has its reason, where that is known. A failed
+/// What a buffer holds of `out` is handed on before it returns. A refusal is one line on `err`, or clap's own text; with `--verbose` a second line has its reason, where that is known. A failed
 /// write to `err` changes no status.
 pub fn run<F: Files, R: Read, O: Write, E: Write>(
     files: &F,
@@ -77,9 +78,15 @@ fn run_words<F: Files, R: Read, O: Write, E: Write>(
     // What is said beside the output, and cannot be written, changes nothing.
     let _ = print_cost(name, arguments, err);
     let mut watched = WatchedWriter::new(out);
-    let Err(refusal) = run_command(&files, alloc, name, arguments, input, &mut watched, err) else {
-        let _ = print_note(&files, name, arguments, err);
-        return 0;
+    let done = run_command(&files, alloc, name, arguments, input, &mut watched, err);
+    // What was printed goes out before a refusal is told, and what failed first is told.
+    let refusal = match (done, flush(&mut watched)) {
+        (Ok(()), Ok(())) => {
+            let _ = print_note(&files, name, arguments, err);
+            return 0;
+        }
+        (Err(refusal), _) => refusal,
+        (Ok(()), Err(WriteFailed)) => Refusal::Write,
     };
     let status = refusal.report(err);
     if arguments.get_flag("verbose") {
@@ -111,9 +118,9 @@ fn answer_of_clap<O: Write, E: Write>(
         };
         return 2;
     }
-    match write!(out, "{error}") {
-        Ok(()) => 0,
-        Err(_) => Refusal::Write.report(err),
+    match (write!(out, "{error}"), flush(out)) {
+        (Ok(()), Ok(())) => 0,
+        _ => Refusal::Write.report(err),
     }
 }
 

@@ -1,5 +1,5 @@
 -- What the words of an argument say.
-use Rattle.std.specs.Prelude.{◌≡◌, ◌≤◌, ℕ, Bool, true, false, List, Option, Some, None, unwrap_or, option_map, is_some, IfSome, if◌then◌else◌, ◌-◌, ◌^◌, ◌&&◌, codes, Result, Err, IsOk}
+use Rattle.std.specs.Prelude.{◌≡◌, ◌≤◌, ℕ, Bool, true, false, List, Option, Some, None, unwrap_or, option_map, is_some, IfSome, if◌then◌else◌, ◌-◌, ◌^◌, ◌&&◌, ◌||◌, codes, Result, Err, IsOk}
 use Rattle.clap.specs.{Words.{first_value, one_text}, declared.parser.matches.Found.{Found}}
 use Rattle.mc_image.specs.VersionText.{Names}
 use Rattle.mc_imgtool.specs.declared.creation.CreateOptions.{CreateOptions}

@@ -8,6 +8,17 @@ use mc_output::WriteFailed;
 use std::alloc::Global;
 use std::io::{BufWriter, Write};
 
+/// Hands on what a buffer still holds.
+///
+/// # Errors
+///
+/// `WriteFailed`.
+pub fn flush<O: Write>(out: &mut O) -> Result<(), WriteFailed>
+    ensures { Keeps (O.contents out.old) (O.contents out.new) }
+{
+    out.flush().map_err(|_| WriteFailed)
+}
+
 /// How many bytes of a page go out at once.
 const PAGE_BUFFER: usize = 65_536;
 

@@ -15,7 +15,7 @@ mod same_file;
 mod source;
 mod usual;
 
-pub use blocks::{finish, in_blocks};
+pub use blocks::{finish, flush, in_blocks};
 pub use layout_file::{asks_file, with_files};
 pub use notes::{print_cost, print_note};
 pub use numbers::NumberOption;

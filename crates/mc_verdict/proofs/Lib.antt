@@ -1,1 +1,3 @@
 mod Judging
+mod Answering
+mod Paging

@@ -1,2 +1,4 @@
 pub mod Verdicts
 pub mod Sessions
+pub mod Requests
+pub mod PagesAsked

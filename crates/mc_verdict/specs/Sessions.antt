@@ -10,7 +10,7 @@ use Rattle.mc_explore.specs.declared.expectation.Expectation.{Expectation}
 use Rattle.mc_explore.specs.declared.expectation.Wanted.TheVariants as wanted
 use Rattle.mc_explore.specs.{declared.rights.RightsOf.{RightsOf}, declared.subject.Fields.{Fields}, declared.tally.TallyOf.{TallyOf}}
 use Rattle.mc_image.specs.Valid.{Identity}
-use Rattle.mc_start.specs.Start.{Started, begun}
+use Rattle.mc_start.specs.Start.{begun}
 use Rattle.mc_options.specs.{Arguments.{GivesExtent, GivesFlash, GivesRange}, Numbers.{GivesNumber}, Sources.{IsStartOf}}
 use Rattle.mc_verdict.specs.{Verdicts.{IsExpectation, GivesAsked}, declared.census.Counts.{Counts}, declared.census.Wanted.{Wanted}}
 use Rattle.mc_verdict.specs.declared.explore.Exploration.{Exploration}
@@ -19,7 +19,6 @@ use Rattle.mc_options.specs.{declared.options.FlashOptions.{FlashOptions}, decla
 use Rattle.mc_options.specs.declared.options.Source.TheVariants as sources
 use Rattle.mc_options.specs.declared.refusal.Refusal.{Refusal}
 use Rattle.mc_options.specs.declared.refusal.Refusal.TheVariants as refusals
-use Rattle.mc_verdict.specs.declared.verdict.Asked.{Asked}
 
 -- Whether the images of a source lie at the end where they would without the swap, by the kind of its start and what is chosen.
 abbrev pub images_return : {C : Type 0} → (Kind → C → Bool) → Source → C → Bool
@@ -38,6 +37,10 @@ abbrev pub ends_of : Bool → Option (Identity × Identity) → Option (Identity
 ends_of images_return None = None
 ends_of true (Some (one, other)) = Some (other, one)
 ends_of false (Some (one, other)) = Some (one, other)
+
+-- What is to be right, or anything.
+abbrev pub or_any : Option Expectation → Expectation
+or_any e = unwrap_or e (record { primary = wanted.Anything; secondary = wanted.Anything })
 
 -- The arguments give an exploration: its start, what is chosen, how far it goes, and which rows it gives.
 pub record GivesExploration {C K R U : Type 0} (x : Subject C K R U) (IsChoice : Found → C → Type 0) (returns : Kind → C → Bool) (found : Found) (e : Exploration C U K) : Type 0 where
@@ -75,12 +78,10 @@ module _ {C K R U : Type 0} (x : Subject C K R U) (fields : U → Fields C K) wh
     pub new : State C K
     pub counts : SurveysRows x expectation e.range.until explorer.state new e.extent.limit tally rights
 
-  -- And only where that is asked, for what the words expect of the slots.
-  pub record TalliesAsked (e : Exploration C U K) (a : Asked) (tally : TallyOf U) (shown : Option (RightsOf K)) : Type 0 where
-    pub expectation : Option Expectation
-    pub expects : IsExpectation a (ends_of e.images_return e.start.named) (Ok expectation)
+  -- And only where something is expected of the slots.
+  pub record TalliesFor (e : Exploration C U K) (expectation : Option Expectation) (tally : TallyOf U) (shown : Option (RightsOf K)) : Type 0 where
     pub rights : RightsOf K
-    pub tallies : TalliesUntil e (unwrap_or expectation (record { primary = wanted.Anything; secondary = wanted.Anything })) tally rights
+    pub tallies : TalliesUntil e (or_any expectation) tally rights
     pub shown_is : shown ≡ option_map (λ _. rights) expectation
 
   -- The page of the rows that the options give is out.

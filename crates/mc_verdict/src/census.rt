@@ -1,5 +1,8 @@
 //! `census`: what all schedules of power cuts, or all campaigns of two rounds, come to, without listing them.
-ghost use Rattle.std.specs.Prelude.{◌≡◌, ◌≤◌, List, IfOk, false, true};
+ghost use Rattle.std.specs.Prelude.{◌≡◌, ◌≤◌, List, IfErr, IfOk, OnErr, OnOk, false, true};
+ghost use Rattle.std.specs.Io.KnownBytes.{Appends};
+ghost use Rattle.mc_output.specs.Text.{AppendsPrefix};
+ghost use Rattle.mc_verdict.specs.Requests.{AnswersCensus, RefusesCensus, counts_text};
 ghost use Rattle.mc_explore.specs.Census.{census_by};
 ghost use Rattle.mc_explore.specs.declared.expectation.Expectation.{Expectation as Expected};
 ghost use Rattle.clap.specs.Matches.{found_of};
@@ -12,11 +15,12 @@ use crate::explore::{ends, images_return};
 use crate::verdict::{Asked, right_if_asked, write_lines};
 use clap::ArgMatches;
 use mc_explore::{
-    CensusOf, Expectation, RightsOf, Start, Subject, each_boots, take_census, take_rights,
-    write_census,
+    CensusOf, Expectation, ExploreError, RightsOf, Start, Subject, each_boots, take_census,
+    take_rights, write_census,
 };
 use mc_flash::JournalFlash;
 use mc_options::{Refusal, census_options, flash_options, read_start};
+use mc_output::WriteFailed;
 use std::alloc::Global;
 use std::io::Write;
 use std::rt::Files;
@@ -54,7 +58,9 @@ fn rights_if<X: Subject>(
     expectation: &Option<Expectation>,
 ) -> Result<Option<RightsOf<X::Key>>, Refusal>
     requires { cuts ≤ 16 }
-    ensures { IfOk result (AreRightsIf X.subject expectation.now (begun start.now) chosen cuts) }
+    ensures rights { IfOk result (AreRightsIf X.subject expectation.now (begun start.now) chosen
+        cuts) }
+    ensures err { IfErr result (λ e. e ≡ Refusal.Explore ExploreError.Memory) }
 {
     match expectation {
         Some(e) => Ok(Some(take_rights::<JournalFlash, X>(alloc, start, cuts, chosen, e)?)),
@@ -137,7 +143,8 @@ pub fn count<X: Subject>(
     wanted: &Wanted<X::Choice>,
 ) -> Result<Counts<X::Key>, Refusal>
     requires { wanted.now.cuts ≤ 16 }
-    ensures { IfOk result (AreCounts X.subject wanted.now) }
+    ensures counts { IfOk result (AreCounts X.subject wanted.now) }
+    ensures refused { IfErr result (RefusesCensus wanted.now) }
 {
     let (start, cuts, choice) = (&wanted.start, wanted.cuts, wanted.choice);
     let expectation = wanted
@@ -163,9 +170,29 @@ pub fn run<X: Explorable, O: Write>(
     out: &mut O,
 ) -> Result<(), Refusal>
     requires { wanted.now.cuts ≤ 16 }
+    ensures { AnswersCensus X.subject wanted.now (O.contents out.old) (O.contents out.new) result }
 {
     let counts = count::<X>(alloc, wanted)?;
-    conclude::<X, O>(&counts, &wanted.asked, out)
+    write_counts::<X, O>(&counts, out)?;
+    judge::<X>(&counts, &wanted.asked)
+}
+
+/// Writes what rows come to, or a beginning of it.
+///
+/// # Errors
+///
+/// `WriteFailed`.
+fn write_counts<X: Subject, O: Write>(
+    counts: &Counts<X::Key>,
+    out: &mut O,
+) -> Result<(), WriteFailed>
+    ensures whole { OnOk result (Appends (O.contents out.old) (O.contents out.new)
+        (counts_text X.subject counts.now)) }
+    ensures prefix { OnErr result (AppendsPrefix (O.contents out.old) (O.contents out.new)
+        (counts_text X.subject counts.now)) }
+{
+    write_census::<X, O>(&counts.census, out)?;
+    write_lines::<X, O>(&counts.rights, out)
 }
 
 /// Prints what rows come to, and gives the verdict on them.
@@ -178,8 +205,7 @@ pub fn conclude<X: Explorable, O: Write>(
     asked: &Asked,
     out: &mut O,
 ) -> Result<(), Refusal> {
-    write_census::<X, O>(&counts.census, out)?;
-    write_lines::<X, O>(&counts.rights, out)?;
+    write_counts::<X, O>(counts, out)?;
     judge::<X>(counts, asked)
 }
 

@@ -1,13 +1,14 @@
 //! `explore`, `campaign` and `survey`: every schedule of power cuts, or every campaign of two rounds, with what the boots after them
 //! do, and how many do what.
-ghost use Rattle.std.specs.Prelude.{◌≡◌, ◌++◌, ◌≤◌, Err, IfOk, option_map};
-ghost use Rattle.std.specs.Io.KnownBytes.{Appends};
+ghost use Rattle.std.specs.Prelude.{◌≡◌, ◌≤◌, IfErr, IfOk, OnOk, option_map};
+ghost use Rattle.std.specs.Io.KnownBytes.{Keeps};
 ghost use Rattle.clap.specs.Matches.{found_of};
 ghost use Rattle.mc_explore.specs.Pages.{Page};
-ghost use Rattle.mc_explore.specs.Survey.{tally_by, tally_text};
+ghost use Rattle.mc_explore.specs.Survey.{tally_by};
 ghost use Rattle.mc_explore.specs.declared.expectation.Expectation.{Expectation as Expected};
-ghost use Rattle.mc_verdict.specs.Sessions.{Explores, PrintsUntil, TalliesAsked, TalliesUntil, GivesExploration, images_return, ends_of};
-ghost use Rattle.mc_verdict.specs.Verdicts.{GivesAsked, AreCounted, IsExpectation, IsVerdict, is_of_slots, is_whole, lines_of};
+ghost use Rattle.mc_verdict.specs.Sessions.{Explores, PrintsUntil, TalliesFor, TalliesUntil, GivesExploration, images_return, ends_of};
+ghost use Rattle.mc_verdict.specs.PagesAsked.{AnswersPage, AnswersSurvey, IsUncounted, PrintBreaks};
+ghost use Rattle.mc_verdict.specs.Verdicts.{GivesAsked, AreCounted, IsExpectation, IsVerdict, is_of_slots, is_whole};
 ghost use Rattle.mc_boot.specs.Plan.{identity_of};
 
 use crate::explorable::Explorable;
@@ -20,10 +21,9 @@ use mc_explore::{
 };
 use mc_flash::JournalFlash;
 use mc_options::{
-    ExploreOptions, RangeOptions, Refusal, Source, explore_options, finish, flash_options,
-    in_blocks, read_start,
+    ExploreOptions, RangeOptions, Refusal, Source, explore_options, flash_options, flush,
+    read_start,
 };
-use mc_output::WriteFailed;
 use std::alloc::Global;
 use std::io::Write;
 use std::rt::Files;
@@ -133,35 +133,39 @@ fn explorer<'a, X: Explorable>(
     }
 }
 
-/// Prints the page, and gives back the writer that has it.
+/// Prints the page, or a beginning of it.
 ///
 /// # Errors
 ///
 /// Those of `explorer`, and `Explore` where memory failed, or the output cannot be written.
-fn print<'a, X: Explorable, O: Write + Drop>(
+fn print<'a, X: Explorable, O: Write>(
     exploration: &'a Exploration<X::Choice, X::Cursor, X::Key>,
     alloc: Global,
-    out: O,
-) -> Result<O, Refusal>
+    out: &mut O,
+) -> Result<(), Refusal>
     requires cuts { exploration.now.extent.cuts ≤ 16 }
     requires limit { 1 ≤ exploration.now.extent.limit }
-    // It is said of the writer that is given back. Where that is a reference, no contract of a page says that it is still the
-    // one that was handed in, so `run` can't say it of `out`.
-    ensures { IfOk result (λ written. PrintsUntil X.subject X.fields exploration.now
-        (O.contents out) (O.contents written)) }
+    ensures whole { OnOk result (PrintsUntil X.subject X.fields exploration.now
+        (O.contents out.old) (O.contents out.new)) }
+    ensures began { IfErr result (PrintBreaks X.subject X.fields exploration.now
+        (O.contents out.old) (O.contents out.new)) }
 {
     let mut explorer = explorer::<X>(exploration, alloc)?;
-    let mut blocks = in_blocks(alloc, out)?;
-    write_rows(
-        &mut explorer,
-        &exploration.range.until,
-        exploration.extent.limit,
-        &mut blocks,
-    )?;
-    match finish(blocks) {
-        Ok(written) => Ok(written),
-        Err(WriteFailed) => Err(Refusal::Explore(ExploreError::Write)),
-    }
+    let (until, limit) = (&exploration.range.until, exploration.extent.limit);
+    write_rows(&mut explorer, until, limit, out)?;
+    Ok(())
+}
+
+/// Hands on what a buffer still holds of a page.
+///
+/// # Errors
+///
+/// `Write`.
+fn flush_page<O: Write>(out: &mut O) -> Result<(), ExploreError>
+    ensures keeps { Keeps (O.contents out.old) (O.contents out.new) }
+    ensures err { IfErr result (λ e. e ≡ ExploreError.Write) }
+{
+    flush(out).map_err(|_| ExploreError::Write)
 }
 
 /// Counts the rows of the page, and how many of them are right.
@@ -176,30 +180,31 @@ fn tally<'a, X: Explorable>(
 ) -> Result<(TallyOf<X::Cursor>, RightsOf<X::Key>), Refusal>
     requires cuts { exploration.now.extent.cuts ≤ 16 }
     requires limit { 1 ≤ exploration.now.extent.limit }
-    ensures { IfOk result (λ counted. TalliesUntil X.subject X.fields exploration.now
+    ensures counts { IfOk result (λ counted. TalliesUntil X.subject X.fields exploration.now
         expectation.now counted.0 counted.1) }
+    ensures err { IfErr result (IsUncounted X.subject X.fields exploration.now) }
 {
     let mut explorer = explorer::<X>(exploration, alloc)?;
     let (until, limit) = (&exploration.range.until, exploration.extent.limit);
     Ok(survey_rows(&mut explorer, until, limit, expectation)?)
 }
 
-/// Counts the rows of the page, and how many of them are right where that is asked.
+/// Counts the rows of the page, and how many of them are right where something is expected of the slots.
 ///
 /// # Errors
 ///
-/// `Expectation`; those of `tally`.
+/// Those of `tally`.
 fn counts<'a, X: Explorable>(
     exploration: &'a Exploration<X::Choice, X::Cursor, X::Key>,
     alloc: Global,
-    asked: &Asked,
+    wanted: &Option<Expectation>,
 ) -> Result<(TallyOf<X::Cursor>, Option<RightsOf<X::Key>>), Refusal>
     requires cuts { exploration.now.extent.cuts ≤ 16 }
     requires limit { 1 ≤ exploration.now.extent.limit }
-    ensures { IfOk result (λ counted. TalliesAsked X.subject X.fields exploration.now asked.now
-        counted.0 counted.1) }
+    ensures counts { IfOk result (λ counted. TalliesFor X.subject X.fields exploration.now
+        wanted.now counted.0 counted.1) }
+    ensures err { IfErr result (IsUncounted X.subject X.fields exploration.now) }
 {
-    let wanted = exploration.expectation(asked)?;
     let expectation = wanted.unwrap_or(Expectation::any());
     let (tally, rights) = tally::<X>(exploration, alloc, &expectation)?;
     match wanted {
@@ -236,8 +241,7 @@ pub fn ask<X: Explorable, F: Files>(
 /// # Errors
 ///
 /// `Expectation`; `Explore` where memory failed, or the page cannot be written; `Write` of the lines after it. What is asked of the rows is
-/// refused as of a survey,
-/// once the page is out.
+/// refused as of a survey, once the page is out.
 pub fn run<'a, X: Explorable, O: Write>(
     exploration: &'a Exploration<X::Choice, X::Cursor, X::Key>,
     asked: &Asked,
@@ -246,13 +250,16 @@ pub fn run<'a, X: Explorable, O: Write>(
 ) -> Result<(), Refusal>
     requires cuts { exploration.now.extent.cuts ≤ 16 }
     requires limit { 1 ≤ exploration.now.extent.limit }
+    ensures { AnswersPage X.subject X.fields exploration.now asked.now (O.contents out.old)
+        (O.contents out.new) result }
 {
-    let _known = exploration.expectation(asked)?;
-    print::<X, &mut O>(exploration, alloc, &mut *out)?;
+    let wanted = exploration.expectation(asked)?;
+    print::<X, O>(exploration, alloc, out)?;
+    flush_page(out)?;
     if !asked.is_any() {
         return Ok(());
     }
-    let (tally, rights) = counts::<X>(exploration, alloc, asked)?;
+    let (tally, rights) = counts::<X>(exploration, alloc, &wanted)?;
     write_lines::<X, O>(&rights, out)?;
     judge::<X>(&tally, &rights, asked)
 }
@@ -273,8 +280,11 @@ pub fn survey<'a, X: Explorable, O: Write>(
 ) -> Result<(), Refusal>
     requires cuts { exploration.now.extent.cuts ≤ 16 }
     requires limit { 1 ≤ exploration.now.extent.limit }
+    ensures { AnswersSurvey X.subject X.fields exploration.now asked.now (O.contents out.old)
+        (O.contents out.new) result }
 {
-    let (tally, rights) = counts::<X>(exploration, alloc, asked)?;
+    let wanted = exploration.expectation(asked)?;
+    let (tally, rights) = counts::<X>(exploration, alloc, &wanted)?;
     write_tally::<X, O>(&tally, out)?;
     write_lines::<X, O>(&rights, out)?;
     judge::<X>(&tally, &rights, asked)

@@ -3,13 +3,13 @@ use Rattle.mc_image.specs.Valid.{Identity}
 use Rattle.mc_verdict.specs.{Sessions.{ends_of}, Verdicts.{IsExpectation}}
 use Rattle.mc_verdict.proofs.census.count.Goals as goal
 
-pub returns : goal.returns
-returns g c =
+pub returns-clause-counts : goal.returns-clause-counts
+returns-clause-counts g c =
     let wanted = c.args.wanted.now in
     record {
       comes_to = c.in_ok-take_census.ensures.census;
       expectation = c.in_ok-expectation.expectation;
-      expects = subst (λ (named : Option (Identity × Identity)). IsExpectation wanted.asked named (Ok c.in_ok-expectation.expectation)) (c.ends.ensures ∙ ap (ends_of wanted.back) c.named.ensures)
-          c.in_ok-expectation.ensures;
-      rights = c.in_ok-rights_if.ensures;
+      expects = subst (λ (named : Option (Identity × Identity)). IsExpectation wanted.asked named (Ok c.in_ok-expectation.expectation))
+          (c.ends.ensures ∙ ap (ends_of wanted.images_return) c.named.ensures) c.in_ok-expectation.ensures;
+      rights = c.in_ok-rights_if.ensures.rights;
     }
