@@ -31,10 +31,6 @@ module _ {N : Type 0} (t : Tree N) where
   shorter (suc n) (x ∷ xs) = omega (arith, shorter n xs)
 
   module _ (s : N) (bound : ℕ) (path : List ℕ) where
-    -- A path of so many steps, and one to a node without children.
-    pub none_deep : bound ≤ length path → HasNoChild t s bound path
-    none_deep deep number m = omega (arith, deep, m.0, length-append path (number ∷ []))
-
     pub none_there : t.width (landed t s path) < 1 → HasNoChild t s bound path
     none_there few number m = omega (arith, few, allowed-last t s path number m.1)
 
@@ -72,17 +68,6 @@ module _ {B N A T : Type 0} (model : B → TreeModel N A T) where
     pub deep : steps ≤ length now.path
     pub same : IsSame old now
     pub stands : now.stands ≡ true
-
-  pub down_begin : (old : Walked B) → old.stands ≡ true → IsPath (model old.flash_tree) old old.path → IsDown 0 old old
-  down_begin old stands listed = record {
-    more = [];
-    path_is = sym (append-nil old.path);
-    last = tt;
-    listed = listed;
-    deep = omega arith;
-    same = record { flash_tree = refl; bound = refl };
-    stands = stands;
-  }
 
   module _ (steps : ℕ) (old mid : Walked B) (d : IsDown steps old mid) where
     abbrev k : TreeModel N A T

@@ -3,14 +3,20 @@ use Rattle.std.specs.Prelude.{Bool, ℕ}
 use Rattle.mc_boot.specs.{Outcome.{left_by}, Plan.{PowerOn, again}, Restart.{confirmed_if}, declared.outcome.BootResult.{BootResult}}
 use Rattle.mc_boot.specs.declared.outcome.BootResult.TheVariants as results
 use Rattle.mc_explore.specs.Boots.{boots, content_or}
-use Rattle.mc_explore.specs.declared.rounds.Round.{Round}
+use Rattle.mc_explore.specs.{declared.rounds.Round.{Round}, declared.rounds.Rounds.{Rounds}}
 use Rattle.mc_explore.specs.declared.rounds.Round.TheVariants as places
+use Rattle.mc_explore.specs.declared.rounds.Rounds.TheVariants as kinds
 use Rattle.mc_tree.specs.Tree.{RoundNode, Tree, two_rounds}
 
 -- 1 or 2.
 abbrev pub number_of : Round → ℕ
 number_of places.First = 1
 number_of places.Second = 2
+
+-- For how many boots more than there are cuts a flash is loaded: for one in one round; for two, and the write between them, in two.
+abbrev pub more_of : Rounds → ℕ
+more_of kinds.One = 1
+more_of (kinds.Two confirms) = 3
 
 -- Where the second round begins if the uncut boot from x ends the first.
 unfoldable pub second_start : Bool → PowerOn → PowerOn

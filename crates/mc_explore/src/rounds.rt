@@ -39,7 +39,8 @@ pub enum Rounds {
 
 impl Rounds {
     ghost use Rattle.std.specs.Prelude.{◌≡◌};
-    ghost use Rattle.mc_explore.specs.inner.BootTree.{confirms_of, more_of};
+    ghost use Rattle.mc_explore.specs.Rounds.{more_of};
+    ghost use Rattle.mc_explore.specs.inner.BootTree.{confirms_of};
 
     /// How many rounds they are.
     pub fn count(self) -> u64 {

@@ -6,7 +6,7 @@ ghost use Rattle.mc_explore.specs.Pages.{FindsBefore, IsBefore, RowBegan, Writes
 ghost use Rattle.mc_flash.specs.Usage.{limits_for};
 ghost use Rattle.mc_start.specs.Start.{begun};
 ghost use Rattle.mc_tree.specs.Tree.{After, Lost};
-ghost use Rattle.mc_explore.specs.inner.BootTree.{more_of};
+ghost use Rattle.mc_explore.specs.Rounds.{more_of};
 ghost use Rattle.mc_explore.specs.Subject.{Resumes, Explores, Finds, GoesOnBeyond, LeavesExplorer, Restarts, StandsBefore, at_start, row_cost, rows_of, state_after};
 
 use crate::at_cuts::AtCuts;

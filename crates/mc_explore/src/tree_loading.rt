@@ -3,7 +3,8 @@ ghost use Rattle.std.specs.Prelude.{◌≡◌, ◌+◌, ◌≤◌, true, IfOk, I
 ghost use Rattle.mc_flash.specs.Geometry.{IsLayout};
 ghost use Rattle.mc_flash.specs.Usage.{limits_for};
 ghost use Rattle.mc_start.specs.Start.{begun};
-ghost use Rattle.mc_explore.specs.inner.BootTree.{begins_of, model_of, more_of};
+ghost use Rattle.mc_explore.specs.Rounds.{more_of};
+ghost use Rattle.mc_explore.specs.inner.BootTree.{begins_of, model_of};
 ghost use Rattle.mc_explore.specs.inner.Exploring.{IsLoaded, LoadsFor};
 ghost use Rattle.mc_explore.specs.inner.View as view;
 ghost use Rattle.mc_explore.specs.Subject.{Names, RefusesCursor};

@@ -85,10 +85,6 @@ worn_to x count op w v u next so_far noted =
     noted ∙ ap (λ (z : Counts). worn z (op ∷ [])) so_far ∙ worn_both w (take count (ops_of x)) (op ∷ [])
     ∙ ap (worn w) (sym (take_next (ops_of x) (drop (count + 1) (ops_of x)) op count (drop_at_place (ops_of x) count op next)))
 
--- It comes to none.
-pub no_operation : (x : PowerOn) (count : ℕ) → cut_at x count ≡ None → FailsAt x (count ∷ []) 0
-no_operation x count none = record { left = x.content; before = refl; cut = count; there = refl; fails = none }
-
 -- ---- what is torn so
 
 module _ (g : Geometry) (op : Op) (s : Content) (r : Reading) where

@@ -20,9 +20,6 @@ module _ (counts : List ℕ) (i sector count here : ℕ) (so : IsSoFar counts i 
   pub stays : here ≤ count → IsSoFar counts (i + 1) sector count
   stays le = grind arith
 
-pub is_most : (counts : List ℕ) (i sector count : ℕ) → length counts ≤ i → IsSoFar counts i sector count → IsMost counts (record { count = count; sector = sector })
-is_most counts i sector count end so = record { value = so.value; greatest = λ k lt. so.greatest k (omega (arith, lt, end)); first = so.first }
-
 -- ---- sums
 
 pub sum_next : (counts : List ℕ) (i all here more : ℕ) → i < length counts → get_or counts i 0 ≡ here → more ≡ min (all + here) (2 ^ 64 - 1)

@@ -37,10 +37,6 @@ module _ (g : Geometry) (R : Content → Op → Type 0) where
   along_more Q Z [] s first more = more s first
   along_more Q Z (op ∷ ops) s first more = (first.0, λ t is. along_more Q Z ops t (first.1 t is) more)
 
-  happens_none : (op : Op) (rest : List Op) (n : ℕ) (o : Option Content) → o ≡ None → (x : Op) → slice_get (first_then op (λ t. happening g rest t) o) n ≡ Some x → (Z : Type 0) → Z
-  happens_none op rest n None is x next Z = absurd cc
-  happens_none op rest n (Some t) is x next Z = absurd cc
-
   -- So it holds of each that is done.
   pub along_at : (Q : Content → Type 0) (ops : List Op) (s : Content) → Along g R Q ops s → (n : ℕ) (op : Op) (t : Content)
       → slice_get (happening g ops s) n ≡ Some op → applied g (take n (happening g ops s)) s ≡ Some t → R t op

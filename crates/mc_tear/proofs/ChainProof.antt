@@ -353,9 +353,6 @@ module _ (law : KnownByBytes) (e : Erasing) (r : Rules) (g : Geometry) (ok : IsL
 
   -- ---- losses one after another
 
-  sym_alike : (x y : PowerOn) → EndAlike x y → EndAlike y x
-  sym_alike x y is = record { outcome = sym is.outcome; rest = sym is.rest }
-
   ends : (u v z : Content) → Ready u v → left_by (power_on r g v) ≡ Some z → ImagesApart g z → EndAlike (power_on r g v) (power_on r g u)
   ends u v z so left apart = end_alike r g v u (λ a b. Rest g b a) so.plans run (rest_pair law r g ok run.end_v run.end_u run.ends at_end)
     where

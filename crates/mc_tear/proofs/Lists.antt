@@ -210,17 +210,6 @@ sound_pieces grains.Unit g (Copy Secondary at Secondary offset len) is = is
 pub plain_pieces : (c : Grain) (g : Geometry) (ops : List Op) → AllByRecursion (IsPlain (in_pieces c g)) ops → AllByRecursion (IsPlain g) ops
 plain_pieces c g ops all = all_weaker (IsPlain (in_pieces c g)) (IsPlain g) (λ op is. (sound_pieces c g op is.0, is.1)) ops all
 
-trailer_pieces_in : (c : Grain) (g : Geometry) (slot : Slot) (op : Op) → InTrailer (in_pieces c g) slot op → InTrailer g slot op
-trailer_pieces_in grains.Call g slot op is = is
-trailer_pieces_in grains.Unit g Primary (Erase o sector) is = is
-trailer_pieces_in grains.Unit g Secondary (Erase o sector) is = is
-trailer_pieces_in grains.Unit g Primary (Program o at bytes) is = (is.0, is.1, record { inside = is.2.inside; start = is.2.start; units = is.2.units; some = is.2.some })
-trailer_pieces_in grains.Unit g Secondary (Program o at bytes) is = (is.0, is.1, record { inside = is.2.inside; start = is.2.start; units = is.2.units; some = is.2.some })
-trailer_pieces_in grains.Unit g slot (Copy from at to offset len) is = is
-
-pub in_trailer_pieces : (c : Grain) (g : Geometry) (slot : Slot) (ops : List Op) → AllByRecursion (InTrailer (in_pieces c g) slot) ops → AllByRecursion (InTrailer g slot) ops
-in_trailer_pieces c g slot ops all = all_weaker (InTrailer (in_pieces c g) slot) (InTrailer g slot) (trailer_pieces_in c g slot) ops all
-
 pub target_pieces : (c : Grain) (g : Geometry) (t : Transfer) (ops : List Op) → AllByRecursion (InTarget (in_pieces c g) t) ops → AllByRecursion (InTarget g t) ops
 target_pieces c g t ops all = all_weaker (InTarget (in_pieces c g) t) (InTarget g t) (by c) ops all
   where

@@ -51,13 +51,6 @@ near_self g s sized = record {
   blank = λ i from. inl refl;
 }
 
-pub outer_wider : (g : Geometry) (H J : Slot → ℕ → Type 0) (u v : Content) → ((o : Slot) (i : ℕ) → H o i → J o i) → Outer g H u v → Outer g J u v
-outer_wider g H J u v wider is =
-    record { sized_u = is.sized_u; sized_v = is.sized_v; data_ = λ o i low out. is.data_ o i low (λ h. out (wider o i h)); magic = is.magic; image_ok = is.image_ok; free = is.free }
-
-pub near_wider : (g : Geometry) (H J : Slot → ℕ → Type 0) (u v : Content) → ((o : Slot) (i : ℕ) → H o i → J o i) → Near g H u v → Near g J u v
-near_wider g H J u v wider is = record { outer = outer_wider g H J u v wider is.outer; primary = is.primary; blank = is.blank }
-
 -- ---- what is read
 
 pub asks_alike : (profile : Profile) (p s t : Trailer) → t.magic ≡ s.magic → t.image_ok ≡ s.image_ok → asks_another profile p t ≡ asks_another profile p s

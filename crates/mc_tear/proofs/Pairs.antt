@@ -42,10 +42,6 @@ module _ (g : Geometry) (T : Content → Content → Op → List Op → Type 0) 
   pairs_append open_ R Z (x ∷ xs) ys s t first more =
       (open_ s t x xs ys first.0, do_more (Pairs g T Q R xs) (Pairs g T Q Z (xs ++ ys)) x s t (λ u w so. pairs_append open_ R Z xs ys u w so more) first.1)
 
-  pub pairs_more : (R Z : Content → Content → Type 0) (ops : List Op) (s t : Content) → ((u w : Content) → R u w → Z u w) → Pairs g T Q R ops s t → Pairs g T Q Z ops s t
-  pairs_more R Z [] s t more first = more s t first
-  pairs_more R Z (op ∷ ops) s t more first = (first.0, do_more (Pairs g T Q R ops) (Pairs g T Q Z ops) op s t (λ u w so. pairs_more R Z ops u w more so) first.1)
-
   -- What each operation keeps, whatever follows.
   abbrev pub Step : (Content → Content → Type 0) → Op → Type 0
   Step I op = (s t : Content) → I s t → ((ops : List Op) → T s t op ops) × BothDo g Q I op s t

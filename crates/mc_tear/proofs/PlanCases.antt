@@ -117,8 +117,3 @@ module _ (r : Rules) (g : Geometry) (s : Content) (R : List Op → Type 0) (none
       by : (b : Bool) → is_resumed r.profile g s ≡ b → R (if b then resumed_plan r.grain g p (highest_entry g s) else new_plan r.grain g (images_of s) (table_of r.profile g s)).list
       by true resumed = resumed_case (goes resumed)
       by false fresh = new_case reverts asks (table_of r.profile g s) refl
-
-  -- The same of a boot that goes on.
-  pub plan_goes : is_resumed r.profile g s ≡ true → WhereGoes → R (plan (power_on r g s)).list
-  unfolding plan plan_with
-  plan_goes resumed goes = rw resumed (resumed_case goes)

@@ -30,9 +30,6 @@ module _ (g : Geometry) (a b : Content) (same : SameAt g (IsData g) a b) (apart 
   pub same_id : (slot : Slot) → id_of (bytes_of a slot) ≡ id_of (bytes_of b slot)
   same_id slot = sym (both slot).0
 
-  pub same_image_size : (slot : Slot) → image_size (bytes_of b slot) ≡ image_size (bytes_of a slot)
-  same_image_size slot = (both slot).1
-
   pub same_images : images_of b ≡ images_of a
   unfolding images_of
   same_images = rw (valid_by_id b.secondary a.secondary (both Secondary).0, (both Primary).1, (both Secondary).1) refl

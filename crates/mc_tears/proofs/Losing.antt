@@ -166,11 +166,6 @@ module _ (e : Erasing) (y : PowerOn) (n : ℕ) (op : Op) (r : Reading) (f m k : 
   case_is : is ≡ is_case e y.geometry op (at_cut y n) r
   case_is = rw (mark_layout, mark_content) at p.case
 
-  pub put_lost : is ≡ true → lost_at e y n (Some r) ≡ Some k.content
-  put_lost same =
-      let content : k.content ≡ torn e y.geometry op (at_cut y n) r = rw (mark_layout, mark_content) at (p.put same) in
-      tear_lost e y n op stands.op_is r (sym case_is ∙ same) ∙ ap (λ (s : Content). Some s) (sym content)
-
   pub none_lost : is ≡ false → lost_at e y n (Some r) ≡ None
   none_lost same = tear_none e y n op stands.op_is r (sym case_is ∙ same)
 
@@ -179,9 +174,6 @@ module _ (e : Erasing) (y : PowerOn) (n : ℕ) (op : Op) (r : Reading) (f m k : 
 
   limits_are : k.usage.limits ≡ f.usage.limits
   limits_are = p.limits ∙ ap (λ (s : Seen). s.usage.limits) marked_is
-
-  pub put_layout : k.geometry ≡ y.geometry
-  put_layout = p.keeps.geometry ∙ mark_layout
 
   pub put_room : CanMark 2 f → HasRoom (most_of y) k
   put_room marks =
@@ -462,9 +454,6 @@ module _ (e : Erasing) (x : PowerOn) (bound : ℕ) (cases : List LostCase) (inde
 module _ (e : Erasing) (y : PowerOn) (l : Loss) (more : List Loss) where
   pub went_on : (u : Content) → lost e y l ≡ Some u → option_map (again y) (after_losses e y (l ∷ more)) ≡ option_map (again (again y u)) (after_losses e (again y u) more)
   went_on u is = ap (λ (o : Option Content). option_map (again y) (option_and_then (λ t. after_losses e (again y t) more) o)) is
-
-  pub went_nowhere : lost e y l ≡ None → option_map (again y) (after_losses e y (l ∷ more)) ≡ None
-  went_nowhere is = ap (λ (o : Option Content). option_map (again y) (option_and_then (λ t. after_losses e (again y t) more) o)) is
 
 -- The case of a start.
 pub first_case : (e : Erasing) (x : PowerOn) (digest : List ℕ) (n : LostCase) → IsCaseHere x [] digest n → digest ≡ flash_digest x.geometry x.content → IsLostCase e x n

@@ -63,14 +63,6 @@ rounds_ordered (suc first) (n ∷ ns) = (omega arith, omega arith, rounds_ordere
 
 -- ---- the last counted up
 
-pub rounds_later : (first : ℕ) (ns : List ℕ) → in_rounds first (on_last (λ n. n + 1) ns) ≡ on_last (number_later 1) (in_rounds first ns)
-rounds_later first [] = refl
-rounds_later zero (n ∷ []) = refl
-rounds_later (suc first) (n ∷ []) = refl
-rounds_later zero (n ∷ m ∷ ns) = ap (λ z. (2, n) ∷ z) (rounds_later zero (m ∷ ns))
-rounds_later (suc zero) (n ∷ m ∷ ns) = ap (λ z. (1, n) ∷ z) (rounds_later zero (m ∷ ns))
-rounds_later (suc (suc first)) (n ∷ m ∷ ns) = ap (λ z. (1, n) ∷ z) (rounds_later (suc first) (m ∷ ns))
-
 -- ---- its text
 
 -- A text after others: where one ends with the next digit, so does the other, if that is one of its own.

@@ -6,7 +6,7 @@ use Rattle.mc_flash.specs.{Geometry.{Geometry}, Usage.{Seen, Usage, most_operati
 use Rattle.mc_flash.specs.declared.flash.Grain.TheVariants as grains
 use Rattle.mc_start.specs.facts.Room.{limits_are}
 use Rattle.mc_walk.specs.Walks.{IsClear}
-use Rattle.mc_explore.specs.{declared.rounds.Rounds.{Rounds}, inner.Exploring.{LoadsFor}, inner.BootTree.{boot_model, more_of}, inner.OneRound.{one_round}}
+use Rattle.mc_explore.specs.{Rounds.{more_of}, declared.rounds.Rounds.{Rounds}, inner.Exploring.{LoadsFor}, inner.BootTree.{boot_model}, inner.OneRound.{one_round}}
 use Rattle.mc_explore.specs.declared.rounds.Rounds.TheVariants as kinds
 
 -- A boot makes some operation at most.

@@ -57,11 +57,6 @@ abbrev pub confirms_of : Rounds → Bool
 confirms_of kinds.One = false
 confirms_of (kinds.Two confirms) = confirms
 
--- For how many boots more than there are cuts a flash is loaded.
-abbrev pub more_of : Rounds → ℕ
-more_of kinds.One = 1
-more_of (kinds.Two confirms) = 3
-
 -- From one child to the next there is one operation, and between the rounds a write more.
 abbrev pub step_of : Rounds → ℕ
 step_of kinds.One = 1
