@@ -1,1 +1,6 @@
+pub mod Images
+pub mod Layouts
+pub mod Lives
+pub mod Schedules
+pub mod Rounds
 pub mod Vectors

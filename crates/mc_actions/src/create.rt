@@ -1,8 +1,10 @@
 //! `create`: an image from a payload.
+ghost use Rattle.std.specs.Prelude.{◌≡◌};
+ghost use Rattle.mc_actions.specs.Images.{AnswersCreate, AnswersInput, IsStandard};
+ghost use Rattle.mc_imgtool.specs.Created.{created};
 ghost use Rattle.mc_options.specs.Arguments.{IsReady};
 
 use crate::creation::Creation;
-use clap::ArgMatches;
 use mc_cli::WatchedFiles;
 use mc_options::{Outfile, Refusal, is_same_file};
 use std::alloc::Global;
@@ -13,32 +15,33 @@ use std::rt::Files;
 /// What stands for standard input and output.
 const STANDARD: &str = "-";
 
-/// Makes the image of INFILE's payload in OUTFILE, either of which may be `-`. The arguments are checked before a file is touched;
-/// INFILE is open before OUTFILE is made, or emptied. With `--keep` OUTFILE is as it was until the image is whole.
+/// Makes the image of INFILE's payload in OUTFILE, either of which may be `-`. INFILE is open before OUTFILE is made, or emptied. With `--keep`
+/// OUTFILE is as it was until the image is whole.
 ///
 /// # Errors
 ///
-/// What `Creation::read` refuses; `SameFile` where OUTFILE is INFILE, by whatever path; `Open` where one of the files
-/// cannot be opened or made; what the image tool refuses.
-pub fn run<F: Files, R: Read, O: Write>(
+/// `SameFile` where OUTFILE is INFILE, by whatever path; `Open` where one of the files cannot be opened or made; what the image tool
+/// refuses.
+pub fn answer<F: Files, R: Read, O: Write>(
     files: &WatchedFiles<'_, F>,
     alloc: Global,
-    arguments: &ArgMatches<'_>,
+    creation: &Creation<'_>,
     input: &mut R,
     out: &mut O,
-) -> Result<(), Refusal> {
-    let creation = Creation::read(arguments)?;
+) -> Result<(), Refusal>
+    requires { IsReady creation.now.options }
+    ensures { AnswersCreate creation.now (R.remaining input.old) (O.contents out.old)
+        (O.contents out.new) result }
+{
     let infile = creation.infile();
     if infile == STANDARD {
-        return make_from(files, alloc, &creation, input, out);
+        return make_from(files, alloc, creation, input, out);
     }
     if is_same_file(files, infile, creation.outfile()) {
         return Err(Refusal::SameFile);
     }
-    match fs::open(files, infile) {
-        Ok(mut file) => make_from(files, alloc, &creation, &mut file, out),
-        Err(_) => Err(Refusal::Open),
-    }
+    let mut file = fs::open(files, infile).map_err(|_| Refusal::Open)?;
+    make_from(files, alloc, creation, &mut file, out)
 }
 
 /// Makes the image of what is read.
@@ -54,16 +57,35 @@ fn make_from<F: Files, R: Read, O: Write>(
     out: &mut O,
 ) -> Result<(), Refusal>
     requires { IsReady creation.now.options }
+    ensures printed { IsStandard creation.now.outfile → AnswersInput
+        (created creation.now.options) (R.remaining input.old) (O.contents out.old)
+        (O.contents out.new) result }
+    ensures written { (IsStandard creation.now.outfile → ⊥) → O.contents out.new
+        ≡ O.contents out.old }
 {
-    let outfile = creation.outfile();
-    if outfile == STANDARD {
-        creation.make(alloc, input, out)?;
-        return Ok(());
+    if creation.outfile() == STANDARD {
+        return creation.make(alloc, input, out).map_err(Refusal::Tool);
     }
+    make_file(files, alloc, creation, input)
+}
+
+/// Makes the image of what is read in its file.
+///
+/// # Errors
+///
+/// Those of `make_from`.
+fn make_file<F: Files, R: Read>(
+    files: &WatchedFiles<'_, F>,
+    alloc: Global,
+    creation: &Creation<'_>,
+    input: &mut R,
+) -> Result<(), Refusal>
+    requires { IsReady creation.now.options }
+{
     let mut output = if creation.keeps() {
-        Outfile::beside(files, alloc, outfile)?
+        Outfile::beside(files, alloc, creation.outfile())?
     } else {
-        Outfile::in_place(files, outfile)?
+        Outfile::in_place(files, creation.outfile())?
     };
     let made = creation.make(alloc, input, &mut output.file);
     output.end(made.map_err(Refusal::Tool))

@@ -1,10 +1,10 @@
 //! What `create` is given, and the image that is made of it.
-ghost use Rattle.std.specs.Prelude.{◌≡◌, codes, Some, IfOk};
+ghost use Rattle.std.specs.Prelude.{◌≡◌, IfOk};
 ghost use Rattle.clap.specs.Matches.{found_of};
-ghost use Rattle.clap.specs.Words.{first_value};
 ghost use Rattle.mc_imgtool.specs.Created.{created};
 ghost use Rattle.mc_imgtool.specs.Engines.{Answers};
-ghost use Rattle.mc_options.specs.Arguments.{GivesCreate, IsFlag, IsReady};
+ghost use Rattle.mc_actions.specs.Images.{GivesCreation};
+ghost use Rattle.mc_options.specs.Arguments.{IsReady};
 
 use clap::ArgMatches;
 use mc_imgtool::{CreateOptions, ToolError};
@@ -29,13 +29,8 @@ impl<'a> Creation<'a> {
     ///
     /// What `create_options` refuses, and `Argument` where a path is missing.
     pub fn read(arguments: &ArgMatches<'a>) -> Result<Creation<'a>, Refusal>
-        ensures options { IfOk result (λ c. GivesCreate (found_of arguments.now) c.options) }
+        ensures given { IfOk result (GivesCreation (found_of arguments.now)) }
         ensures ready { IfOk result (λ c. IsReady c.options) }
-        ensures infile { IfOk result (λ c. first_value (found_of arguments.now) (codes "INFILE")
-            ≡ Some c.infile.now) }
-        ensures outfile { IfOk result (λ c. first_value (found_of arguments.now) (codes "OUTFILE")
-            ≡ Some c.outfile.now) }
-        ensures keep { IfOk result (λ c. IsFlag (found_of arguments.now) (codes "keep") c.keep) }
     {
         Ok(Creation {
             options: create_options(arguments)?,

@@ -1,6 +1,9 @@
 //! `dumpinfo`: what is in an image?
+ghost use Rattle.std.specs.Prelude.{◌≡◌, false};
+ghost use Rattle.mc_actions.specs.Images.{AnswersFile, AnswersInput, AnswersNamed};
+ghost use Rattle.mc_imgtool.specs.Lines.{dumped};
+
 use crate::infile::open_infile;
-use clap::ArgMatches;
 use mc_image::{ImageView, Tlvs};
 use mc_imgtool::{dumpinfo, read_bounded};
 use mc_options::{GREATEST_IMAGE, Refusal, entry_name};
@@ -9,27 +12,51 @@ use std::io;
 use std::io::{Read, Write};
 use std::rt::Files;
 
-/// Prints the report of the image of INFILE, or of standard input where INFILE is left out. With `--verbose` the usual names of its entries
+/// Prints the report of the image of INFILE, or of standard input where no file is named. With `named` the usual names of its entries
 /// follow on `err`.
 ///
 /// # Errors
 ///
 /// `Open` where INFILE cannot be opened, and what the image tool refuses.
-pub fn run<F: Files, R: Read, O: Write, E: Write>(
+pub fn answer<F: Files, R: Read, O: Write, E: Write>(
     files: &F,
     alloc: Global,
-    arguments: &ArgMatches<'_>,
+    infile: Option<&str>,
+    named: bool,
     input: &mut R,
     out: &mut O,
     err: &mut E,
-) -> Result<(), Refusal> {
-    let verbose = arguments.get_flag("verbose");
-    match open_infile(files, arguments)? {
-        Some(mut file) if verbose => report_named(alloc, &mut file, out, err),
-        Some(mut file) => Ok(dumpinfo(alloc, &mut file, out)?),
-        None if verbose => report_named(alloc, input, out, err),
-        None => Ok(dumpinfo(alloc, input, out)?),
+) -> Result<(), Refusal>
+    ensures { AnswersNamed dumped named infile.entry (R.remaining input.old) (O.contents out.old)
+        (O.contents out.new) result }
+{
+    let Some(path) = infile else {
+        return report(alloc, named, input, out, err);
+    };
+    let mut file = open_infile(files, path)?;
+    report(alloc, named, &mut file, out, err)
+}
+
+/// Prints the report of an image, and with `named` the usual names of its entries.
+///
+/// # Errors
+///
+/// What the image tool refuses.
+fn report<R: Read, O: Write, E: Write>(
+    alloc: Global,
+    named: bool,
+    input: &mut R,
+    out: &mut O,
+    err: &mut E,
+) -> Result<(), Refusal>
+    ensures plain { named ≡ false → AnswersInput dumped (R.remaining input.old) (O.contents out.old)
+        (O.contents out.new) result }
+    ensures some { AnswersFile dumped (O.contents out.old) (O.contents out.new) result }
+{
+    if named {
+        return report_named(alloc, input, out, err);
     }
+    dumpinfo(alloc, input, out).map_err(Refusal::Tool)
 }
 
 /// Prints the report of an image, and the usual names of its entries.
@@ -42,14 +69,18 @@ fn report_named<R: Read, O: Write, E: Write>(
     input: &mut R,
     out: &mut O,
     err: &mut E,
-) -> Result<(), Refusal> {
+) -> Result<(), Refusal>
+    ensures { AnswersFile dumped (O.contents out.old) (O.contents out.new) result }
+{
     let bytes = read_bounded(alloc, input, GREATEST_IMAGE)?;
-    dumpinfo(alloc, &mut bytes.as_slice(), out)?;
-    if let Ok(image) = ImageView::read(bytes.as_slice()) {
+    let reported = dumpinfo(alloc, &mut bytes.as_slice(), out).map_err(Refusal::Tool);
+    if reported.is_ok()
+        && let Ok(image) = ImageView::read(bytes.as_slice())
+    {
         // Names that cannot be written change nothing.
         let _ = print_names(image.tlvs(), err);
     }
-    Ok(())
+    reported
 }
 
 /// Prints the usual name of each entry that has one.

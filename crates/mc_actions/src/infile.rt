@@ -1,23 +1,27 @@
 //! INFILE, where it may be left out.
+ghost use Rattle.clap.specs.Matches.{found_of};
+ghost use Rattle.mc_actions.specs.Images.{GivesInfile};
+
 use clap::ArgMatches;
 use mc_options::Refusal;
 use std::fs;
 use std::rt::Files;
 
-/// Opens INFILE, and returns nothing where it is left out or `-`.
+/// The path of INFILE, or none where it is left out or `-`.
+pub fn infile_named<'p>(arguments: &ArgMatches<'p>) -> Option<&'p str>
+    ensures { GivesInfile (found_of arguments.now) result }
+{
+    match arguments.get_str("INFILE") {
+        None | Some("-") => None,
+        infile => infile,
+    }
+}
+
+/// Opens INFILE.
 ///
 /// # Errors
 ///
-/// `Open` where INFILE cannot be opened.
-pub fn open_infile<F: Files>(
-    files: &F,
-    arguments: &ArgMatches<'_>,
-) -> Result<Option<F::File>, Refusal> {
-    match arguments.get_str("INFILE") {
-        None | Some("-") => Ok(None),
-        Some(infile) => match fs::open(files, infile) {
-            Ok(file) => Ok(Some(file)),
-            Err(_) => Err(Refusal::Open),
-        },
-    }
+/// `Open` where it cannot be opened.
+pub fn open_infile<F: Files>(files: &F, path: &str) -> Result<F::File, Refusal> {
+    fs::open(files, path).map_err(|_| Refusal::Open)
 }

@@ -2,10 +2,10 @@
 #![tactic(auto)]
 
 pub mod create;
-mod creation;
+pub mod creation;
 pub mod dumpinfo;
 pub mod explain;
-mod infile;
+pub mod infile;
 pub mod layout;
 pub mod life;
 pub mod replay;

@@ -1,5 +1,11 @@
 //! `life`: what happens to a device, replayed event by event.
-ghost use Rattle.std.specs.Prelude.{◌≤◌, length};
+ghost use Rattle.std.specs.Prelude.{◌≡◌, ◌≤◌, IfOk, MatchResult, OnErr, OnOk, length};
+ghost use Rattle.clap.specs.Matches.{found_of};
+ghost use Rattle.mc_actions.specs.Lives.{AnswersLife, GivesLife, IsWearOut, StopsLife};
+ghost use Rattle.mc_life.specs.Device.{OfWear};
+ghost use Rattle.mc_life.specs.Replay.{IsReplayed};
+ghost use Rattle.mc_options.specs.Arguments.{GivesLayout, GivesRules};
+ghost use Rattle.mc_output.specs.Text.{AppendsPrefix};
 
 use crate::replay::write_file;
 use clap::ArgMatches;
@@ -14,6 +20,7 @@ use mc_options::{
     GREATEST_FLASH, GREATEST_IMAGE, Refusal, check_outputs, is_same_file, layout_options,
     read_file, rules_options,
 };
+use mc_output::WriteFailed;
 use std::alloc::Global;
 use std::io::{Read, Write};
 use std::rt::Files;
@@ -24,7 +31,9 @@ use std::{fs, io};
 /// # Errors
 ///
 /// `Start` where the image is refused, or does not fit, or an allocation failed.
-fn delivered(alloc: Global, layout: &Layout, image: &[u8]) -> Result<Start, Refusal> {
+fn delivered(alloc: Global, layout: &Layout, image: &[u8]) -> Result<Start, Refusal>
+    ensures { IfOk result (λ start. start.geometry ≡ layout.now) }
+{
     let images = Start::from_images(alloc, layout, Kind::None, image, image)?;
     let primary = images.primary();
     let size = primary.len() + layout.size(Slot::Secondary) as usize;
@@ -36,31 +45,49 @@ fn delivered(alloc: Global, layout: &Layout, image: &[u8]) -> Result<Start, Refu
     Ok(Start::from_flash(alloc, layout, &bytes)?)
 }
 
+/// The start of a device, by its file.
+///
+/// # Errors
+///
+/// `Device` where not one of `--flash` and `--image` is given; what is refused of the file.
+fn start_of<F: Files>(
+    files: &F,
+    alloc: Global,
+    arguments: &ArgMatches<'_>,
+    layout: &Layout,
+) -> Result<Start, Refusal>
+    ensures { IfOk result (λ start. start.geometry ≡ layout.now) }
+{
+    match (arguments.get_str("flash"), arguments.get_str("image")) {
+        (Some(path), None) => {
+            let bytes = read_file(files, alloc, path, GREATEST_FLASH)?;
+            Ok(Start::from_flash(alloc, layout, &bytes)?)
+        }
+        (None, Some(path)) => {
+            let bytes = read_file(files, alloc, path, GREATEST_IMAGE)?;
+            delivered(alloc, layout, &bytes)
+        }
+        _ => Err(Refusal::Device),
+    }
+}
+
 /// The start that the options give. They are checked before a file is touched.
 ///
 /// # Errors
 ///
-/// `Layout` and `Argument` of the words; `SameFile`; `Device` where not one of `--flash` and `--image` is given; what is refused of
-/// the file.
+/// `Layout` and `Argument` of the words; `SameFile`; those of `start_of`.
 fn read_device<F: Files>(
     files: &F,
     alloc: Global,
     arguments: &ArgMatches<'_>,
-) -> Result<Start, Refusal> {
+) -> Result<Start, Refusal>
+    ensures layout { IfOk result (λ start. GivesLayout (found_of arguments.now) start.geometry) }
+    ensures rules { IfOk result (λ start. GivesRules (found_of arguments.now) start.rules) }
+{
     let layout = layout_options(arguments)?;
     let rules = rules_options(arguments)?;
     check_outputs(files, arguments)?;
-    let start = match (arguments.get_str("flash"), arguments.get_str("image")) {
-        (Some(path), None) => {
-            let bytes = read_file(files, alloc, path, GREATEST_FLASH)?;
-            Start::from_flash(alloc, &layout, &bytes)?
-        }
-        (None, Some(path)) => {
-            let bytes = read_file(files, alloc, path, GREATEST_IMAGE)?;
-            delivered(alloc, &layout, &bytes)?
-        }
-        _ => return Err(Refusal::Device),
-    };
+    let start = start_of(files, alloc, arguments, &layout)?;
     Ok(start.with_rules(rules))
 }
 
@@ -134,32 +161,44 @@ fn read_script<F: Files, R: Read>(
     Ok(Script::read(alloc, &mut file)?)
 }
 
-/// A device, what happens to it, and the files that the script names.
+/// What `life` is asked for: a device, what happens to it, the files that the script names, and what follows.
 #[derive(Drop)]
-struct Life {
+pub struct Life<'p> {
     start: Start,
     script: Script,
     shelf: Vec<File>,
+    /// Whether what was erased is printed at the end.
+    wear: bool,
+    /// Whether it is remembered why an event can't happen.
+    verbose: bool,
+    /// The file that the flash at the end goes to, if one is named.
+    out: Option<&'p str>,
 }
 
-/// The life that the options give. They are checked before a file is touched.
+/// What `life` is asked for. The words are checked before a file is touched.
 ///
 /// # Errors
 ///
 /// Those of `read_device`, `read_script` and `read_shelf`, in this order.
-fn read<F: Files, R: Read>(
+pub fn read<'p, F: Files, R: Read>(
     files: &F,
     alloc: Global,
-    arguments: &ArgMatches<'_>,
+    arguments: &ArgMatches<'p>,
     input: &mut R,
-) -> Result<Life, Refusal> {
+) -> Result<Life<'p>, Refusal>
+    ensures { IfOk result (GivesLife (found_of arguments.now)) }
+{
     let start = read_device(files, alloc, arguments)?;
     let script = read_script(files, alloc, arguments, input)?;
-    let shelf = read_shelf(files, alloc, &script, arguments.get_str("out"))?;
+    let out = arguments.get_str("out");
+    let shelf = read_shelf(files, alloc, &script, out)?;
     Ok(Life {
         start,
         script,
         shelf,
+        wear: arguments.get_flag("wear"),
+        verbose: arguments.get_flag("verbose"),
+        out,
     })
 }
 
@@ -198,7 +237,7 @@ fn cut_of(device: &mut Device<SnapFlash>, event: &Event<'_>, index: usize) -> Op
 }
 
 /// A cut of the event in a line that can't occur, and how many operations its boot has: what comes before is replayed once more.
-fn operations_at(life: &Life, alloc: Global, number: u32, index: usize) -> Option<(u32, u32)> {
+fn operations_at(life: &Life<'_>, alloc: Global, number: u32, index: usize) -> Option<(u32, u32)> {
     let text = lines_before(life.script.text(), number)?;
     let before = Script::read(alloc, &mut text.as_bytes()).ok()?;
     let mut device: Device<SnapFlash> = replay_life(
@@ -215,7 +254,7 @@ fn operations_at(life: &Life, alloc: Global, number: u32, index: usize) -> Optio
 }
 
 /// Why an event can't happen: its line, and of a cut how many operations its boot has.
-fn reason_of(life: &Life, alloc: Global, error: EventError, number: u32) -> Option<String> {
+fn reason_of(life: &Life<'_>, alloc: Global, error: EventError, number: u32) -> Option<String> {
     let line = line_at(&life.script, number)?;
     if let EventError::CannotOccur(index) = error
         && let Some((cut, operations)) = operations_at(life, alloc, number, index)
@@ -227,48 +266,70 @@ fn reason_of(life: &Life, alloc: Global, error: EventError, number: u32) -> Opti
     format!(in alloc; "line {number} is: {line}").ok()
 }
 
-/// Replays a life, a line for each event, and gives the device as it is at the end. With `--verbose` it is remembered why an event can't
-/// happen.
+/// Replays a life, a line for each event, and gives the device as it is at the end.
 ///
 /// # Errors
 ///
 /// `Life` with the first event that can't happen: all before it is printed.
 fn replay<F: Files, O: Write>(
     files: &WatchedFiles<'_, F>,
-    life: &Life,
     alloc: Global,
-    arguments: &ArgMatches<'_>,
+    life: &Life<'_>,
     out: &mut O,
-) -> Result<Device<SnapFlash>, Refusal> {
+) -> Result<Device<SnapFlash>, Refusal>
+    ensures { MatchResult result
+        (IsReplayed life.now.shelf.items life.now.start life.now.script (O.contents out.old)
+        (O.contents out.new))
+        (StopsLife life.now (O.contents out.old) (O.contents out.new)) }
+{
     let replayed = replay_life(alloc, &life.start, &life.script, &life.shelf, out);
-    if arguments.get_flag("verbose")
+    if life.verbose
         && let Err(LifeError::Refused(error, _, number)) = &replayed
         && let Some(reason) = reason_of(life, alloc, *error, *number)
     {
         files.keep_reason(reason);
     }
-    Ok(replayed?)
+    replayed.map_err(Refusal::Life)
 }
 
-/// Replays what happens to a device by a script, a line for each event. With `--wear` it ends with two lines of what was erased,
-/// and where `--out` names a file, the flash at the end is written to it.
+/// Prints what was erased, where that is asked for.
 ///
 /// # Errors
 ///
-/// What refuses the words or their files; `Script`; `Life` with the first event that can't happen; `Open` and `Write` of the file.
-pub fn run<F: Files, R: Read, O: Write>(
+/// `WriteFailed`.
+fn write_erased<O: Write>(
+    life: &Life<'_>,
+    device: &Device<SnapFlash>,
+    out: &mut O,
+) -> Result<(), WriteFailed>
+    ensures whole { OnOk result (IsWearOut life.now.wear device.now.wear (O.contents out.old)
+        (O.contents out.new)) }
+    ensures prefix { OnErr result (OfWear device.now.wear (AppendsPrefix (O.contents out.old)
+        (O.contents out.new))) }
+{
+    if !life.wear {
+        return Ok(());
+    }
+    write_wear(device.wear(), out)
+}
+
+/// Replays what happens to a device by a script, a line for each event. Where it is asked for, two lines of what was erased follow, and
+/// where a file is named, the flash at the end is written to it.
+///
+/// # Errors
+///
+/// `Life` with the first event that can't happen; `Write`; `Open`, `Memory` and `Write` of the file.
+pub fn answer<F: Files, O: Write>(
     files: &WatchedFiles<'_, F>,
     alloc: Global,
-    arguments: &ArgMatches<'_>,
-    input: &mut R,
+    life: &Life<'_>,
     out: &mut O,
-) -> Result<(), Refusal> {
-    let life = read(files, alloc, arguments, input)?;
-    let device = replay(files, &life, alloc, arguments, out)?;
-    if arguments.get_flag("wear") {
-        write_wear(device.wear(), out).map_err(|_| Refusal::Write)?;
-    }
-    match arguments.get_str("out") {
+) -> Result<(), Refusal>
+    ensures { AnswersLife life.now (O.contents out.old) (O.contents out.new) result }
+{
+    let device = replay(files, alloc, life, out)?;
+    write_erased(life, &device, out)?;
+    match life.out {
         Some(path) => write_file(files, alloc, path, device.flash()),
         None => Ok(()),
     }

@@ -1,76 +1,119 @@
 //! `boot` and `replay`: what the boot after a schedule of power cuts does.
-use crate::schedule::{Scheduled, read_schedule, schedule_from};
+ghost use Rattle.std.specs.Prelude.{IfErr, IfOk, OnErr};
+ghost use Rattle.clap.specs.Matches.{found_of};
+ghost use Rattle.mc_actions.specs.Schedules.{AnswersReplay, GivesBoot, GivesOutputs, GivesScheduled, HasOutput, RefusesReplayed};
+
+use crate::schedule::{Outputs, Scheduled, read_schedule, schedule_from};
 use clap::ArgMatches;
 use mc_cli::WatchedFiles;
 use mc_explore::{flash_at_cut, replay};
 use mc_flash::{Flash, JournalFlash};
 use mc_options::{Outfile, Refusal};
+use mc_output::write_text;
 use mc_trace::write_slots;
 use std::alloc::Global;
 use std::io::Write;
 use std::rt::Files;
 
-/// Runs the boot of a source, and prints its outcome. Where `--out` names a file, the flash that is left is written to it first.
-/// The words are checked before a file is touched.
-///
-/// # Errors
-///
-/// `Source` and `Layout` of the words; what `read_start` refuses; `Replay` for want of memory; `Open` and `Write` of the file and
-/// the output.
-pub fn boot<F: Files, O: Write>(
-    files: &WatchedFiles<'_, F>,
-    alloc: Global,
-    arguments: &ArgMatches<'_>,
-    out: &mut O,
-) -> Result<(), Refusal> {
-    let given = schedule_from(files, alloc, arguments, "-")?;
-    print_replay(files, alloc, arguments, &given, out)
-}
-
-/// Replays a schedule from a source, and prints the outcome. Where `--at-cut` names a file, the flash as it was when the last cut
-/// fell is written to it first, and then, where `--out` does, the flash that is left. The words are checked before a file is
+/// What `boot` is asked for: the boot of a source, and where the flash that it leaves goes. The words are checked before a file is
 /// touched.
 ///
 /// # Errors
 ///
-/// Those of `boot`; `Schedule` of the words, and `Replay` where a cut can't occur.
-pub fn run<F: Files, O: Write>(
-    files: &WatchedFiles<'_, F>,
+/// `Source` and `Layout` of the words; `SameFile`; what `read_start` refuses.
+pub fn read_boot<'p, F: Files>(
+    files: &F,
     alloc: Global,
-    arguments: &ArgMatches<'_>,
-    out: &mut O,
-) -> Result<(), Refusal> {
-    let given = read_schedule(files, alloc, arguments)?;
-    if let Some(path) = arguments.get_str("at-cut") {
-        write_cut(files, alloc, path, &given)?;
-    }
-    print_replay(files, alloc, arguments, &given, out)
+    arguments: &ArgMatches<'p>,
+) -> Result<(Scheduled, Outputs<'p>), Refusal>
+    ensures boot { IfOk result (λ asked. GivesBoot (found_of arguments.now) asked.0) }
+    ensures outputs { IfOk result (λ asked. GivesOutputs (found_of arguments.now) asked.1) }
+{
+    let given = schedule_from(files, alloc, arguments, "-")?;
+    Ok((given, Outputs::named(arguments)))
 }
 
-// Writes the flash as it was when the last cut of a schedule fell.
+/// What `replay` is asked for: a schedule from a source, and where its flashes go. The words are checked before a file is touched.
+///
+/// # Errors
+///
+/// Those of `read_boot`, and `Schedule` of the words.
+pub fn read<'p, F: Files>(
+    files: &F,
+    alloc: Global,
+    arguments: &ArgMatches<'p>,
+) -> Result<(Scheduled, Outputs<'p>), Refusal>
+    ensures schedule { IfOk result (λ asked. GivesScheduled (found_of arguments.now) asked.0) }
+    ensures outputs { IfOk result (λ asked. GivesOutputs (found_of arguments.now) asked.1) }
+{
+    let given = read_schedule(files, alloc, arguments)?;
+    Ok((given, Outputs::named(arguments)))
+}
+
+// Writes the flash as it was when the last cut of a schedule fell, where a file is named for it.
 fn write_cut<F: Files>(
     files: &WatchedFiles<'_, F>,
     alloc: Global,
-    path: &str,
     given: &Scheduled,
-) -> Result<(), Refusal> {
-    let flash: JournalFlash = flash_at_cut(alloc, &given.start, &given.schedule)?;
+    outputs: &Outputs<'_>,
+) -> Result<(), Refusal>
+    ensures { IfErr result (RefusesReplayed given.now outputs.now) }
+{
+    let Some(path) = outputs.at_cut else {
+        return Ok(());
+    };
+    let flash: JournalFlash = flash_at_cut(alloc, &given.start, &given.schedule).map_err(
+        Refusal::Replay,
+    )?;
     write_file(files, alloc, path, &flash)
 }
 
-// Prints the outcome of a schedule, after the flash that is left was written where `--out` names a file.
-fn print_replay<F: Files, O: Write>(
+/// Writes the flash that the last boot leaves, where a file is named for it.
+///
+/// # Errors
+///
+/// Those of `write_file`.
+pub fn write_left<F: Files>(
     files: &WatchedFiles<'_, F>,
     alloc: Global,
-    arguments: &ArgMatches<'_>,
-    given: &Scheduled,
-    out: &mut O,
-) -> Result<(), Refusal> {
-    let (outcome, flash) = replay::<JournalFlash>(alloc, &given.start, &given.schedule)?;
-    if let Some(path) = arguments.get_str("out") {
-        write_file(files, alloc, path, &flash)?;
+    flash: &JournalFlash,
+    outputs: &Outputs<'_>,
+) -> Result<(), Refusal>
+    ensures { OnErr result (HasOutput outputs.now) }
+{
+    match outputs.out {
+        Some(path) => write_file(files, alloc, path, flash),
+        None => Ok(()),
     }
-    write!(out, "{outcome}").map_err(|_| Refusal::Write)
+}
+
+/// Replays a schedule, and prints the outcome of the boot after it. Where files are named, the flash as it was when the last cut fell is written
+/// to the one first, and then the flash that is left to the other.
+///
+/// # Errors
+///
+/// `Replay` where a cut can't occur, or for want of memory; `Memory`; `Open` and `Write` of the files and the output.
+pub fn answer<F: Files, O: Write>(
+    files: &WatchedFiles<'_, F>,
+    alloc: Global,
+    given: &Scheduled,
+    outputs: &Outputs<'_>,
+    out: &mut O,
+) -> Result<(), Refusal>
+    ensures { AnswersReplay given.now outputs.now (O.contents out.old) (O.contents out.new)
+        result }
+{
+    write_cut(files, alloc, given, outputs)?;
+    let (outcome, flash) = match replay::<JournalFlash>(alloc, &given.start, &given.schedule) {
+        Ok(done) => done,
+        Err(error) => return Err(Refusal::Replay(error)),
+    };
+    let Ok(text) = format!(in alloc; "{outcome}") else {
+        return Err(Refusal::Memory);
+    };
+    write_left(files, alloc, &flash, outputs)?;
+    write_text(out, text.as_bytes())?;
+    Ok(())
 }
 
 /// Writes the bytes of both slots, the primary's first, to a file, which is as it was until all are written.

@@ -1,43 +1,58 @@
 //! `replay`, `trace` and `sectors` of a campaign of two rounds of boots.
-ghost use Rattle.std.specs.Prelude.{IfOk, codes};
+ghost use Rattle.std.specs.Prelude.{◌≡◌, IfErr, IfOk, List, ℕ, MatchResult, OnErr, OnOk};
+ghost use Rattle.std.specs.Io.KnownBytes.{Appends};
 ghost use Rattle.clap.specs.Matches.{found_of};
-ghost use Rattle.mc_options.specs.Arguments.{IsFlag};
-ghost use Rattle.mc_options.specs.Sources.{GivesStart};
+ghost use Rattle.mc_actions.specs.Rounds.{AnswersRounds, AnswersShown, BeginsBoth, GivesCampaign, IsRoundText, RefusesRounds};
+ghost use Rattle.mc_actions.specs.Schedules.{HasOutput};
+ghost use Rattle.mc_boot.specs.Outcome.{Report};
+ghost use Rattle.mc_campaign.specs.Campaigns.{BeginsSecond, in_round};
+ghost use Rattle.mc_explore.specs.Schedules.{IsReplayed, RefusesReplay};
+ghost use Rattle.mc_flash.specs.Flash.{Content};
+ghost use Rattle.mc_output.specs.Text.{AppendsPrefix};
+ghost use Rattle.mc_start.specs.Start.{begun};
 
-use crate::replay::write_file;
+use crate::replay::{write_file, write_left};
+use crate::schedule::Outputs;
 use clap::ArgMatches;
-use mc_boot::Outcome;
 use mc_campaign::{Campaign, Round, replay_campaign, start_of_second};
 use mc_cli::WatchedFiles;
-use mc_explore::{Schedule, Start, flash_at_cut};
+use mc_explore::{ReplayError, Schedule, Start, flash_at_cut};
 use mc_flash::JournalFlash;
 use mc_options::{Refusal, check_outputs, flash_options, read_start, required};
-use mc_trace::{Span, View, write_sectors, write_trace};
+use mc_output::write_text;
+use mc_trace::{Span, TraceError, View, write_sectors, write_trace};
 use std::alloc::Global;
 use std::io::Write;
 use std::rt::Files;
 
 /// A start, a campaign from it, and whether the image confirms itself between the rounds.
 #[derive(Drop)]
-struct Campaigned {
+pub struct Campaigned {
     start: Start,
     campaign: Campaign,
     confirms: bool,
 }
 
-/// The start of a source, and the campaign that the options give. The words are checked before a file is touched.
+/// What is shown of a round.
+#[derive(Clone, Copy, Debug)]
+pub enum RoundText {
+    /// The operations of its boots in that span, and its outcome.
+    Operations(Span),
+    /// What lies in each sector, by what lay there at its start.
+    Sectors(View),
+}
+
+/// What the commands on a campaign are asked for. The words are checked before a file is touched.
 ///
 /// # Errors
 ///
 /// `Source`, `Layout` and `Campaign` of the words, in this order; `SameFile`; what `read_start` refuses.
-fn read<F: Files>(
+pub fn read<F: Files>(
     files: &F,
     alloc: Global,
     arguments: &ArgMatches<'_>,
 ) -> Result<Campaigned, Refusal>
-    ensures start { IfOk result (λ c. GivesStart (found_of arguments.now) c.start) }
-    ensures confirms { IfOk result (λ c. IsFlag (found_of arguments.now) (codes "confirm")
-        c.confirms) }
+    ensures { IfOk result (GivesCampaign (found_of arguments.now)) }
 {
     let options = match flash_options(arguments) {
         Ok(options) => options,
@@ -53,129 +68,112 @@ fn read<F: Files>(
 }
 
 impl Campaigned {
-    /// The start of the second round.
-    ///
-    /// # Errors
-    ///
-    /// `Replay` where a cut of the first round can't occur, or for want of memory.
-    fn second(&self, alloc: Global) -> Result<Start, Refusal> {
+    // The start of the second round.
+    fn second(&self, alloc: Global) -> Result<Start, ReplayError>
+        ensures { let c = self.now in MatchResult result
+            (λ then. BeginsSecond (begun c.start) c.confirms (in_round 1 c.campaign) (begun then))
+            (λ e. RefusesReplay (begun c.start) (in_round 1 c.campaign) e) }
+    {
         let cuts = self.campaign.schedule(Round::First);
-        Ok(start_of_second::<JournalFlash>(alloc, &self.start, &cuts, self.confirms)?)
+        let then = start_of_second::<JournalFlash>(alloc, &self.start, &cuts, self.confirms)?;
+        Ok(then)
     }
 
-    /// The outcomes of both rounds, and the flash that is left.
-    ///
-    /// # Errors
-    ///
-    /// `Replay` where a cut can't occur, or for want of memory.
-    fn replay(&self, alloc: Global) -> Result<(Outcome, Outcome, JournalFlash), Refusal> {
-        Ok(replay_campaign(alloc, &self.start, &self.campaign, self.confirms)?)
+    // The start of the second round, once each cut was found to occur.
+    fn checked(&self, alloc: Global) -> Result<Start, Refusal>
+        ensures begins { IfOk result (λ then. BeginsBoth self.now (begun then)) }
+        ensures refused { IfErr result (RefusesRounds self.now) }
+    {
+        match replay_campaign::<JournalFlash>(alloc, &self.start, &self.campaign, self.confirms) {
+            Ok(_) => self.second(alloc).map_err(Refusal::Replay),
+            Err(error) => Err(Refusal::Replay(error)),
+        }
     }
 
-    /// Writes the flash as it was when the last cut fell.
-    ///
-    /// # Errors
-    ///
-    /// `Replay` where a cut can't occur, or for want of memory; `Open`; `Write`.
+    // The flash as it was when the last cut fell.
+    fn cut(&self, alloc: Global) -> Result<JournalFlash, ReplayError> {
+        let seconds = self.campaign.schedule(Round::Second);
+        if seconds.cuts().is_empty() {
+            flash_at_cut(alloc, &self.start, &self.campaign.schedule(Round::First))
+        } else {
+            flash_at_cut(alloc, &self.second(alloc)?, &seconds)
+        }
+    }
+
+    // Writes that flash, where a file is named for it.
     fn write_cut<F: Files>(
         &self,
         files: &WatchedFiles<'_, F>,
         alloc: Global,
-        path: &str,
-    ) -> Result<(), Refusal> {
-        let (firsts, seconds) = (
-            self.campaign.schedule(Round::First),
-            self.campaign.schedule(Round::Second),
-        );
-        let flash: JournalFlash = if seconds.cuts().is_empty() {
-            flash_at_cut(alloc, &self.start, &firsts)?
-        } else {
-            flash_at_cut(alloc, &self.second(alloc)?, &seconds)?
+        outputs: &Outputs<'_>,
+    ) -> Result<(), Refusal>
+        ensures { OnErr result (HasOutput outputs.now) }
+    {
+        let Some(path) = outputs.at_cut else {
+            return Ok(());
         };
-        write_file(files, alloc, path, &flash)
+        let cut = self.cut(alloc).map_err(Refusal::Replay)?;
+        write_file(files, alloc, path, &cut)
     }
 }
 
-/// Replays a campaign from a source, and prints the outcomes of both rounds. Where `--at-cut` names a file, the flash as it was when
-/// the last cut fell is written to it first, and then, where `--out` does, the flash that is left. The words are checked before a
-/// file is touched.
+/// Replays a campaign, and prints the outcomes of both rounds. Where files are named, the flash as it was when the last cut fell is written to the
+/// one first, and then the flash that is left to the other.
 ///
 /// # Errors
 ///
-/// Those of `read`; `Replay` where a cut can't occur, or for want of memory; `Open` and `Write` of the files and the output.
-pub fn replay<F: Files, O: Write>(
+/// `Replay` where a cut can't occur, or for want of memory; `Memory`; `Open` and `Write` of the files and the output.
+pub fn answer<F: Files, O: Write>(
     files: &WatchedFiles<'_, F>,
     alloc: Global,
-    arguments: &ArgMatches<'_>,
+    asked: &Campaigned,
+    outputs: &Outputs<'_>,
     out: &mut O,
-) -> Result<(), Refusal> {
-    let campaigned = read(files, alloc, arguments)?;
-    let (first, second, flash) = campaigned.replay(alloc)?;
-    if let Some(path) = arguments.get_str("at-cut") {
-        campaigned.write_cut(files, alloc, path)?;
-    }
-    if let Some(path) = arguments.get_str("out") {
-        write_file(files, alloc, path, &flash)?;
-    }
-    write!(out, "round 1\n{first}round 2\n{second}").map_err(|_| Refusal::Write)
+) -> Result<(), Refusal>
+    ensures { AnswersRounds asked.now outputs.now (O.contents out.old) (O.contents out.new)
+        result }
+{
+    let (start, campaign) = (&asked.start, &asked.campaign);
+    let (first, second, left) = match replay_campaign::<JournalFlash>(
+        alloc,
+        start,
+        campaign,
+        asked.confirms,
+    ) {
+        Ok(done) => done,
+        Err(error) => return Err(Refusal::Replay(error)),
+    };
+    let Ok(text) = format!(in alloc; "round 1\n{first}round 2\n{second}") else {
+        return Err(Refusal::Memory);
+    };
+    asked.write_cut(files, alloc, outputs)?;
+    write_left(files, alloc, &left, outputs)?;
+    write_text(out, text.as_bytes())?;
+    Ok(())
 }
 
-/// What is printed of a round.
-#[derive(Clone, Copy)]
-pub enum RoundText {
-    /// The operations of its boots in that span, and its outcome.
-    Operations(Span),
-    /// What lies in each sector, by what lay there at its start.
-    Sectors(View),
-}
-
-/// Prints that of the round from a start whose cuts those are.
-///
-/// # Errors
-///
-/// `Trace` where a cut can't occur, for want of memory, or where the output fails.
+// Prints that of the round from a start whose cuts those are.
 fn write_round<O: Write>(
     alloc: Global,
     start: &Start,
     cuts: &Schedule,
     text: RoundText,
     out: &mut O,
-) -> Result<(), Refusal> {
+) -> Result<(), TraceError>
+    ensures whole { OnOk result ((shown : List ℕ)
+        × IsRoundText text (begun start.now) cuts.now shown
+        × Appends (O.contents out.old) (O.contents out.new) shown) }
+    ensures prefix { (o : Report) (z : Content) → IsReplayed (begun start.now) cuts.now o z
+        → OnErr result ((shown : List ℕ) × IsRoundText text (begun start.now) cuts.now shown
+        × AppendsPrefix (O.contents out.old) (O.contents out.new) shown) }
+{
     match text {
         RoundText::Operations(span) => {
-            write_trace::<JournalFlash, O>(alloc, start, cuts, span, out)?;
+            write_trace::<JournalFlash, O>(alloc, start, cuts, span, out)
         }
         RoundText::Sectors(view) => {
-            write_sectors::<JournalFlash, O>(alloc, start, cuts, view, out)?;
+            write_sectors::<JournalFlash, O>(alloc, start, cuts, view, out)
         }
-    }
-    Ok(())
-}
-
-impl Campaigned {
-    /// Finds whether each cut can occur.
-    ///
-    /// # Errors
-    ///
-    /// Those of `replay`.
-    fn check(&self, alloc: Global) -> Result<(), Refusal> {
-        let _outcomes = self.replay(alloc)?;
-        Ok(())
-    }
-
-    /// Prints that of both rounds, each under a line of its own.
-    ///
-    /// # Errors
-    ///
-    /// `Replay` where a cut of the first round can't occur, or for want of memory; `Write`; those of `write_round`.
-    fn write<O: Write>(&self, alloc: Global, text: RoundText, out: &mut O) -> Result<(), Refusal> {
-        let second = self.second(alloc)?;
-        out.write_all(b"round 1\n").map_err(|_| Refusal::Write)?;
-        let firsts = self.campaign.schedule(Round::First);
-        write_round(alloc, &self.start, &firsts, text, out)?;
-        out.write_all(b"round 2\n").map_err(|_| Refusal::Write)?;
-        let seconds = self.campaign.schedule(Round::Second);
-        write_round(alloc, &second, &seconds, text, out)
     }
 }
 
@@ -183,16 +181,22 @@ impl Campaigned {
 ///
 /// # Errors
 ///
-/// Those of `read`; `Replay` where a cut can't occur, which is found before anything is printed; `Trace` for want of memory, or where
-/// the output fails.
-pub fn print<F: Files, O: Write>(
-    files: &F,
+/// `Replay` where a cut can't occur, which is found before anything is printed, or for want of memory; `Trace` for want of memory, or where
+/// the output fails; `Write`.
+pub fn show<O: Write>(
     alloc: Global,
-    arguments: &ArgMatches<'_>,
+    asked: &Campaigned,
     text: RoundText,
     out: &mut O,
-) -> Result<(), Refusal> {
-    let campaigned = read(files, alloc, arguments)?;
-    campaigned.check(alloc)?;
-    campaigned.write(alloc, text, out)
+) -> Result<(), Refusal>
+    ensures { AnswersShown asked.now text (O.contents out.old) (O.contents out.new) result }
+{
+    let then = asked.checked(alloc)?;
+    write_text(out, b"round 1\n")?;
+    let firsts = asked.campaign.schedule(Round::First);
+    write_round(alloc, &asked.start, &firsts, text, out).map_err(Refusal::Trace)?;
+    write_text(out, b"round 2\n")?;
+    let seconds = asked.campaign.schedule(Round::Second);
+    write_round(alloc, &then, &seconds, text, out).map_err(Refusal::Trace)?;
+    Ok(())
 }

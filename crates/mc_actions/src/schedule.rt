@@ -1,8 +1,8 @@
 //! A schedule of power cuts and the start that it begins at, as options give them.
-ghost use Rattle.std.specs.Prelude.{◌≡◌, Some, IfOk, codes};
+ghost use Rattle.std.specs.Prelude.{◌≡◌, IfOk};
 ghost use Rattle.clap.specs.Matches.{found_of};
+ghost use Rattle.mc_actions.specs.Schedules.{GivesOutputs, GivesScheduled};
 ghost use Rattle.mc_start.specs.Start.{schedule_text};
-ghost use Rattle.mc_options.specs.Arguments.{MayGiveSchedule};
 ghost use Rattle.mc_options.specs.Sources.{GivesStart};
 
 use clap::ArgMatches;
@@ -28,9 +28,7 @@ pub fn read_schedule<F: Files>(
     alloc: Global,
     arguments: &ArgMatches<'_>,
 ) -> Result<Scheduled, Refusal>
-    ensures start { IfOk result (λ t. GivesStart (found_of arguments.now) t.start) }
-    ensures schedule { IfOk result (λ t. MayGiveSchedule (found_of arguments.now)
-        (codes "schedule") (Some t.schedule)) }
+    ensures { IfOk result (GivesScheduled (found_of arguments.now)) }
 {
     schedule_from(files, alloc, arguments, required(arguments, "schedule")?)
 }
@@ -57,4 +55,25 @@ pub fn schedule_from<F: Files>(
     check_outputs(files, arguments)?;
     let start = read_start(files, alloc, &options)?;
     Ok(Scheduled { start, schedule })
+}
+
+/// The files that the flashes of a replay go to, where some are named.
+#[derive(Clone, Copy, Debug)]
+pub struct Outputs<'p> {
+    /// That of the flash at the last cut.
+    pub at_cut: Option<&'p str>,
+    /// That of the flash which the last boot leaves.
+    pub out: Option<&'p str>,
+}
+
+impl<'p> Outputs<'p> {
+    /// Those that the words name.
+    pub fn named(arguments: &ArgMatches<'p>) -> Outputs<'p>
+        ensures { GivesOutputs (found_of arguments.now) result }
+    {
+        Outputs {
+            at_cut: arguments.get_str("at-cut"),
+            out: arguments.get_str("out"),
+        }
+    }
 }

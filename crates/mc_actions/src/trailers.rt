@@ -1,51 +1,52 @@
 //! `type`: what the trailers of a flash ask for.
+ghost use Rattle.std.specs.Prelude.{◌≡◌, IfOk};
+ghost use Rattle.clap.specs.Matches.{found_of};
+ghost use Rattle.mc_actions.specs.Layouts.{AnswersType, yes_or_no};
+ghost use Rattle.mc_options.specs.Sources.{GivesStart};
+ghost use Rattle.mc_trailer.specs.Trailer.{trailer_of};
+
 use clap::ArgMatches;
 use mc_explore::Start;
-use mc_flash::{Flash, JournalFlash, Slot};
+use mc_flash::{Flash, FlashError, JournalFlash, Slot};
 use mc_options::{Refusal, flash_options, read_start};
-use mc_trailer::{Profile, Trailer, resumes_by, swap_type};
+use mc_output::write_text;
+use mc_trailer::{Trailer, resumes_by, swap_type};
 use std::alloc::Global;
 use std::io::Write;
 use std::rt::Files;
 
-/// The start of the source that the options give. The words are checked before a file is touched.
+/// What `type` is asked for: the start of a source. The words are checked before a file is touched.
 ///
 /// # Errors
 ///
 /// `Source` and `Layout` of the options; what `read_start` refuses.
-fn start_of<F: Files>(
+pub fn read<F: Files>(
     files: &F,
     alloc: Global,
     arguments: &ArgMatches<'_>,
-) -> Result<Start, Refusal> {
+) -> Result<Start, Refusal>
+    ensures { IfOk result (GivesStart (found_of arguments.now)) }
+{
     match flash_options(arguments) {
         Ok(options) => read_start(files, alloc, &options),
         Err(refusal) => Err(refusal),
     }
 }
 
-/// Prints both trailers of a source's flash, whether a boot would go on with a swap, and the type that the swap tables
-/// give, also where a boot would go on.
-///
-/// # Errors
-///
-/// Those of `start_of`; `Flash` where an allocation failed; `Write` where the output cannot be written.
-pub fn run<F: Files, O: Write>(
-    files: &F,
-    alloc: Global,
-    arguments: &ArgMatches<'_>,
-    out: &mut O,
-) -> Result<(), Refusal> {
-    let start = start_of(files, alloc, arguments)?;
-    print_trailers(alloc, &start, out)
+/// `yes` or `no`.
+pub fn yes_or_no(is: bool) -> &'static str
+    ensures { result.now ≡ yes_or_no is }
+{
+    if is { "yes" } else { "no" }
 }
 
-/// Prints the trailers of a start, and what they ask for.
-///
-/// # Errors
-///
-/// `Flash` where an allocation failed; `Write` where the output cannot be written.
-fn print_trailers<O: Write>(alloc: Global, start: &Start, out: &mut O) -> Result<(), Refusal> {
+// Both trailers of a start's flash.
+fn trailers_of(alloc: Global, start: &Start) -> Result<(Trailer, Trailer), FlashError>
+    ensures primary { let s = start.now in IfOk result (λ both. both.0
+        ≡ trailer_of s.geometry s.content Slot.Primary) }
+    ensures secondary { let s = start.now in IfOk result (λ both. both.1
+        ≡ trailer_of s.geometry s.content Slot.Secondary) }
+{
     let flash = JournalFlash::load(
         alloc,
         start.layout(),
@@ -56,29 +57,30 @@ fn print_trailers<O: Write>(alloc: Global, start: &Start, out: &mut O) -> Result
     )?;
     let primary = Trailer::read(&flash, Slot::Primary);
     let secondary = Trailer::read(&flash, Slot::Secondary);
-    print_asked(start.rules().profile, &primary, &secondary, out)
+    Ok((primary, secondary))
 }
 
-/// Prints both trailers, whether a boot would go on with a swap, and the type of the swap tables.
+/// Prints both trailers of a flash, whether a boot would go on with a swap, and the type that the swap tables give, also where a boot
+/// would go on.
 ///
 /// # Errors
 ///
-/// `Write` where the output cannot be written.
-fn print_asked<O: Write>(
-    profile: Profile,
-    primary: &Trailer,
-    secondary: &Trailer,
-    out: &mut O,
-) -> Result<(), Refusal> {
-    let resume = if resumes_by(profile, primary, secondary) {
-        "yes"
-    } else {
-        "no"
+/// `Flash` and `Memory` where an allocation failed; `Write` where the output cannot be written.
+pub fn answer<O: Write>(alloc: Global, start: &Start, out: &mut O) -> Result<(), Refusal>
+    ensures { AnswersType start.now (O.contents out.old) (O.contents out.new) result }
+{
+    let (primary, secondary) = match trailers_of(alloc, start) {
+        Ok(both) => both,
+        Err(error) => return Err(Refusal::Flash(error)),
     };
-    let table = swap_type(profile, primary, secondary);
-    write!(
-        out,
+    let profile = start.rules().profile;
+    let resume = yes_or_no(resumes_by(profile, &primary, &secondary));
+    let table = swap_type(profile, &primary, &secondary);
+    let Ok(text) = format!(in alloc;
         "primary {primary}\nsecondary {secondary}\nresume {resume}\ntable {table}\n"
-    )
-    .map_err(|_| Refusal::Write)
+    ) else {
+        return Err(Refusal::Memory);
+    };
+    write_text(out, text.as_bytes())?;
+    Ok(())
 }

@@ -1,14 +1,11 @@
 //! `vectors`: each distinct flash that power cuts leave, or all losses of power, for a boot loader to be tried on.
-ghost use Rattle.std.specs.Prelude.{◌≡◌, ◌<◌, IfOk, IsOk};
+ghost use Rattle.std.specs.Prelude.{◌≡◌, IfErr, IfOk, IsOk, None, OnErr, OnOk};
 ghost use Rattle.std.specs.Io.KnownBytes.{Appends};
 ghost use Rattle.clap.specs.Matches.{found_of};
-ghost use Rattle.mc_start.specs.Start.{begun};
-ghost use Rattle.mc_actions.specs.Vectors.{GivesCuts, IsAsked, IsFew};
-ghost use Rattle.mc_vectors.specs.Cases.{AreCases};
-ghost use Rattle.mc_vectors.specs.Table.{cases_text};
-ghost use Rattle.mc_actions.specs.Vectors.{AreLossesAsked};
-ghost use Rattle.mc_tears.specs.Losses.{AreLostCases, table_text};
+ghost use Rattle.mc_actions.specs.Vectors.{AnswersVectors, AreFlashes, AreFound, GivesCuts, GivesFolder, GivesTorn, GivesVectors, IsFew, RefusesSearch, bound_of, count_of, is_whole, table_of};
+ghost use Rattle.mc_output.specs.Text.{AppendsPrefix};
 
+use crate::trailers::yes_or_no;
 use clap::ArgMatches;
 use mc_cli::WatchedFiles;
 use mc_explore::{ExploreError, Line, Schedule, Start, flash_at_cut, replay};
@@ -16,10 +13,11 @@ use mc_flash::{Flash, JournalFlash};
 use mc_options::{
     Outfile, Refusal, census_options, finish, flash_options, in_blocks, read_start, required,
 };
+use mc_output::{WriteFailed, write_text};
 use mc_tears::{Erasing, LostCase, LostCases, find_losses, start_after, write_lost};
 use mc_trace::{write_patch, write_slots};
-use mc_vectors::{Case, Found, find_cases, write_cases};
-use std::alloc::Global;
+use mc_vectors::{Found, find_cases, write_cases};
+use std::alloc::{AllocError, Global};
 use std::collections::BTreeSet;
 use std::fs;
 use std::io::{Error, ErrorKind, Write};
@@ -27,7 +25,7 @@ use std::rt::Files;
 
 /// How many cuts are asked for.
 #[derive(Clone, Copy, Debug)]
-enum Cuts {
+pub enum Cuts {
     /// At most so many.
     AtMost(u8),
     /// Any number.
@@ -50,55 +48,15 @@ impl Cuts {
         }
         Ok(Cuts::AtMost(census_options(arguments)?))
     }
-}
 
-/// The flashes that such schedules leave.
-///
-/// # Errors
-///
-/// `MoreCuts` where any number is asked for, and flashes that 16 cuts leave may lead to more; `Explore` for want of memory.
-fn find(alloc: Global, start: &Start, cuts: Cuts) -> Result<Found, Refusal>
-    requires { IsFew cuts }
-    ensures { IfOk result (λ found. AreCases (begun start.now) (IsAsked cuts) found.cases.items) }
-{
-    let bound = match cuts {
-        Cuts::AtMost(bound) => bound,
-        Cuts::Any => 16,
-    };
-    let Ok(found) = find_cases::<JournalFlash>(alloc, start, bound) else {
-        return Err(Refusal::Explore(ExploreError::Memory));
-    };
-    match cuts {
-        Cuts::Any if !found.whole => Err(Refusal::MoreCuts),
-        _ => Ok(found),
-    }
-}
-
-/// The flashes that so many losses of power leave, before operations and within them.
-///
-/// # Errors
-///
-/// Those of `find`.
-fn find_torn(
-    alloc: Global,
-    start: &Start,
-    erasing: Erasing,
-    cuts: Cuts,
-) -> Result<LostCases, Refusal>
-    requires { IsFew cuts }
-    ensures { IfOk result (λ found. AreLostCases erasing (begun start.now) (AreLossesAsked cuts)
-        found.cases.items) }
-{
-    let bound = match cuts {
-        Cuts::AtMost(bound) => bound,
-        Cuts::Any => 16,
-    };
-    let Ok(found) = find_losses::<JournalFlash>(alloc, start, erasing, bound) else {
-        return Err(Refusal::Explore(ExploreError::Memory));
-    };
-    match cuts {
-        Cuts::Any if !found.whole => Err(Refusal::MoreCuts),
-        _ => Ok(found),
+    /// How many are looked through.
+    fn bound(self) -> u8
+        ensures { result ≡ bound_of self }
+    {
+        match self {
+            Cuts::AtMost(bound) => bound,
+            Cuts::Any => 16,
+        }
     }
 }
 
@@ -107,7 +65,9 @@ fn find_torn(
 /// # Errors
 ///
 /// `Argument` where `--erase` is given without `--torn`.
-fn torn_option(arguments: &ArgMatches<'_>) -> Result<Option<Erasing>, Refusal> {
+fn torn_option(arguments: &ArgMatches<'_>) -> Result<Option<Erasing>, Refusal>
+    ensures { IfOk result (GivesTorn (found_of arguments.now)) }
+{
     match (arguments.get_flag("torn"), arguments.get_str("erase")) {
         (false, None) => Ok(None),
         (true, None | Some("gentle")) => Ok(Some(Erasing::Gentle)),
@@ -116,37 +76,9 @@ fn torn_option(arguments: &ArgMatches<'_>) -> Result<Option<Erasing>, Refusal> {
     }
 }
 
-/// Writes the table, and gives back the writer that has it.
-///
-/// # Errors
-///
-/// `Explore` for want of memory; `Write`.
-fn print_table<O: Write + Drop>(alloc: Global, cases: &[Case], out: O) -> Result<O, Refusal>
-    ensures { IfOk result (λ written. Appends (O.contents out) (O.contents written)
-        (cases_text cases.now)) }
-{
-    let mut blocks = in_blocks(alloc, out)?;
-    write_cases(cases, &mut blocks)?;
-    Ok(finish(blocks)?)
-}
-
-/// The same of losses.
-///
-/// # Errors
-///
-/// Those of `print_table`.
-fn print_lost<O: Write + Drop>(alloc: Global, cases: &[LostCase], out: O) -> Result<O, Refusal>
-    ensures { IfOk result (λ written. Appends (O.contents out) (O.contents written)
-        (table_text cases.now)) }
-{
-    let mut blocks = in_blocks(alloc, out)?;
-    write_lost(cases, &mut blocks)?;
-    Ok(finish(blocks)?)
-}
-
 /// The flashes that are found.
 #[derive(Drop)]
-enum Table {
+pub enum Table {
     /// Those that cuts leave.
     OfCuts(Found),
     /// Those that losses leave, where an erase fails so.
@@ -155,7 +87,9 @@ enum Table {
 
 impl Table {
     /// How many there are.
-    fn len(&self) -> usize {
+    fn len(&self) -> usize
+        ensures { result ≡ count_of self.now }
+    {
         match self {
             Table::OfCuts(found) => found.cases.len(),
             Table::OfLosses(found, _) => found.cases.len(),
@@ -163,7 +97,9 @@ impl Table {
     }
 
     /// Whether no number of cuts or losses leaves another.
-    fn is_whole(&self) -> bool {
+    fn is_whole(&self) -> bool
+        ensures { result ≡ is_whole self.now }
+    {
         match self {
             Table::OfCuts(found) => found.whole,
             Table::OfLosses(found, _) => found.whole,
@@ -174,11 +110,16 @@ impl Table {
     ///
     /// # Errors
     ///
-    /// Those of `print_table`.
-    fn print<O: Write + Drop>(&self, alloc: Global, out: O) -> Result<O, Refusal> {
+    /// `WriteFailed`.
+    fn write<O: Write>(&self, out: &mut O) -> Result<(), WriteFailed>
+        ensures whole { OnOk result (Appends (O.contents out.old) (O.contents out.new)
+            (table_of self.now)) }
+        ensures prefix { OnErr result (AppendsPrefix (O.contents out.old) (O.contents out.new)
+            (table_of self.now)) }
+    {
         match self {
-            Table::OfCuts(found) => print_table(alloc, &found.cases, out),
-            Table::OfLosses(found, _) => print_lost(alloc, &found.cases, out),
+            Table::OfCuts(found) => write_cases(&found.cases, out),
+            Table::OfLosses(found, _) => write_lost(&found.cases, out),
         }
     }
 
@@ -387,7 +328,7 @@ impl<F: Files> Folder<'_, '_, F> {
     ///
     /// # Errors
     ///
-    /// `Open` where a file cannot be made; those of `write_flashes` and `print_table`.
+    /// `Open` where a file cannot be made; those of `write_flashes` and `write_table`.
     fn write(&self, start: &Start, table: &Table) -> Result<(), Refusal> {
         if self.patches {
             self.write_start(start)?;
@@ -395,11 +336,20 @@ impl<F: Files> Folder<'_, '_, F> {
         self.write_flashes(start, table)?;
         let path = self.inside("cases.tsv")?;
         let mut outfile = Outfile::in_new_folder(self.files, self.alloc, path.as_str())?;
-        let written = match table.print(self.alloc, &mut outfile.file) {
-            Ok(_) => Ok(()),
-            Err(refusal) => Err(refusal),
-        };
+        let written = self.write_table(table, &mut outfile.file);
         outfile.end(written)
+    }
+
+    /// Writes the table.
+    ///
+    /// # Errors
+    ///
+    /// `Explore` for want of memory; `Write`.
+    fn write_table<W: Write + Drop>(&self, table: &Table, out: W) -> Result<(), Refusal> {
+        let mut blocks = in_blocks(self.alloc, out)?;
+        table.write(&mut blocks)?;
+        let _ = finish(blocks)?;
+        Ok(())
     }
 
     /// Writes the flash of the start.
@@ -416,49 +366,54 @@ impl<F: Files> Folder<'_, '_, F> {
     }
 }
 
-/// The folder that the words name, if they name one.
-///
-/// # Errors
-///
-/// `Argument` where patches are asked for without a folder.
-fn folder_named<'f, 'p, F: Files>(
-    files: &'f WatchedFiles<'f, F>,
-    alloc: Global,
-    arguments: &ArgMatches<'p>,
-) -> Result<Option<Folder<'f, 'p, F>>, Refusal> {
-    let patches = arguments.get_flag("patches");
-    match arguments.get_str("dir") {
-        Some(path) => Ok(Some(Folder {
-            files,
-            alloc,
-            path,
-            patches,
-        })),
-        None if patches => Err(Refusal::Argument),
-        None => Ok(None),
+/// A folder that is to be made.
+#[derive(Clone, Copy, Debug)]
+pub struct NewFolder<'p> {
+    path: &'p str,
+    /// Whether flashes are written as patches of the start's.
+    patches: bool,
+}
+
+impl<'p> NewFolder<'p> {
+    /// That which the words name, if they name one.
+    ///
+    /// # Errors
+    ///
+    /// `Argument` where patches are asked for without a folder.
+    fn named(arguments: &ArgMatches<'p>) -> Result<Option<NewFolder<'p>>, Refusal>
+        ensures { IfOk result (GivesFolder (found_of arguments.now)) }
+    {
+        let patches = arguments.get_flag("patches");
+        match arguments.get_str("dir") {
+            Some(path) => Ok(Some(NewFolder { path, patches })),
+            None if patches => Err(Refusal::Argument),
+            None => Ok(None),
+        }
     }
 }
 
-/// What the words ask of a start.
+/// What `vectors` is asked for: the flashes that so many cuts, or losses, leave from a start, and the folder that they go into, if any.
 #[derive(Drop)]
-struct Asked<'f, 'p, F: Files> {
+pub struct VectorsAsked<'p> {
     start: Start,
     cuts: Cuts,
+    /// How an erase fails, where power may be lost within an operation.
     torn: Option<Erasing>,
-    folder: Option<Folder<'f, 'p, F>>,
+    folder: Option<NewFolder<'p>>,
 }
 
-/// What the words ask. They are checked before a file is touched.
+/// What `vectors` is asked for. The words are checked before a file is touched.
 ///
 /// # Errors
 ///
 /// `Source`, `Layout` and the numbers of the words; `Argument`; what `read_start` refuses.
-fn read<'f, 'p, F: Files>(
-    files: &'f WatchedFiles<'f, F>,
+pub fn read<'p, F: Files>(
+    files: &F,
     alloc: Global,
     arguments: &ArgMatches<'p>,
-) -> Result<Asked<'f, 'p, F>, Refusal>
-    ensures { IfOk result (λ asked. IsFew asked.cuts) }
+) -> Result<VectorsAsked<'p>, Refusal>
+    ensures given { IfOk result (GivesVectors (found_of arguments.now)) }
+    ensures few { IfOk result (λ asked. IsFew asked.cuts) }
 {
     let options = match flash_options(arguments) {
         Ok(options) => options,
@@ -466,9 +421,9 @@ fn read<'f, 'p, F: Files>(
     };
     let cuts = Cuts::read(arguments)?;
     let torn = torn_option(arguments)?;
-    let folder = folder_named(files, alloc, arguments)?;
+    let folder = NewFolder::named(arguments)?;
     let start = read_start(files, alloc, &options)?;
-    Ok(Asked {
+    Ok(VectorsAsked {
         start,
         cuts,
         torn,
@@ -476,64 +431,94 @@ fn read<'f, 'p, F: Files>(
     })
 }
 
-/// Prints the table, or writes it and the flashes into a folder and prints how many there are.
-///
-/// # Errors
-///
-/// Those of `print_table` and `Folder::write`; `Write`.
-fn print<F: Files, O: Write>(
-    asked: &Asked<'_, '_, F>,
-    alloc: Global,
-    table: &Table,
-    out: &mut O,
-) -> Result<(), Refusal> {
-    let Some(folder) = &asked.folder else {
-        let _ = table.print(alloc, &mut *out)?;
-        return Ok(());
-    };
-    folder.write(&asked.start, table)?;
-    let all = if table.is_whole() { "yes" } else { "no" };
-    write!(out, "flashes {}\nall {all}\n", table.len()).map_err(|_| Refusal::Write)
-}
+impl VectorsAsked<'_> {
+    /// The flashes that are found.
+    ///
+    /// # Errors
+    ///
+    /// Where an allocation failed.
+    fn find(&self, alloc: Global) -> Result<Table, AllocError>
+        requires { IsFew self.now.cuts }
+        ensures { IfOk result (AreFound self.now (bound_of self.now.cuts)) }
+    {
+        let bound = self.cuts.bound();
+        match self.torn {
+            None => Ok(Table::OfCuts(find_cases::<JournalFlash>(alloc, &self.start, bound)?)),
+            Some(erasing) => {
+                let found = find_losses::<JournalFlash>(alloc, &self.start, erasing, bound)?;
+                Ok(Table::OfLosses(found, erasing))
+            }
+        }
+    }
 
-/// The flashes that are asked for.
-///
-/// # Errors
-///
-/// Those of `find` and `find_torn`.
-fn search<F: Files>(alloc: Global, asked: &Asked<'_, '_, F>) -> Result<Table, Refusal>
-    requires { IsFew asked.now.cuts }
-{
-    match asked.torn {
-        None => Ok(Table::OfCuts(find(alloc, &asked.start, asked.cuts)?)),
-        Some(erasing) => {
-            let found = find_torn(alloc, &asked.start, erasing, asked.cuts)?;
-            Ok(Table::OfLosses(found, erasing))
+    /// The flashes that are asked for.
+    ///
+    /// # Errors
+    ///
+    /// `MoreCuts` where any number is asked for, and flashes that 16 cuts leave may lead to more; `Explore` for want of memory.
+    fn search(&self, alloc: Global) -> Result<Table, Refusal>
+        requires { IsFew self.now.cuts }
+        ensures found { IfOk result (AreFlashes self.now) }
+        ensures refused { IfErr result (RefusesSearch self.now) }
+    {
+        let Ok(table) = self.find(alloc) else {
+            return Err(Refusal::Explore(ExploreError::Memory));
+        };
+        match self.cuts {
+            Cuts::Any if !table.is_whole() => Err(Refusal::MoreCuts),
+            _ => Ok(table),
         }
     }
 }
 
-/// Prints each distinct flash that schedules of so many cuts leave, or with `--torn` so many losses of power, as a row of a table: the first
-/// schedule that leaves it, its digest, the outcome of the boot from there, and the digest of the flash that this boot leaves. With `--dir` the
-/// table and the flashes are written into a folder, and how many flashes there are is printed. The words are checked before a file is touched, and the folder is
-/// made before the search begins.
+/// Prints each distinct flash that schedules of so many cuts leave, or so many losses of power, as a row of a table: the first
+/// schedule that leaves it, its digest, the outcome of the boot from there, and the digest of the flash that this boot leaves. Where a folder is
+/// named, the table and the flashes are written into it, and how many flashes there are is printed. The folder is made before the search
+/// begins.
 ///
 /// # Errors
 ///
-/// Those of `read`, `search` and `print`; `InUse` and `Open` of the folder.
-pub fn run<F: Files, O: Write>(
+/// `MoreCuts`; `Explore` for want of memory; `Write`; `InUse` and `Open` of the folder, and what refuses its files.
+pub fn answer<F: Files, O: Write>(
     files: &WatchedFiles<'_, F>,
     alloc: Global,
-    arguments: &ArgMatches<'_>,
+    asked: &VectorsAsked<'_>,
     out: &mut O,
-) -> Result<(), Refusal> {
-    let asked = match read(files, alloc, arguments) {
-        Ok(asked) => asked,
-        Err(refusal) => return Err(refusal),
+) -> Result<(), Refusal>
+    requires { IsFew asked.now.cuts }
+    ensures { AnswersVectors asked.now (O.contents out.old) (O.contents out.new) result }
+{
+    let Some(NewFolder { path, patches }) = asked.folder else {
+        return print(alloc, asked, out);
     };
-    if let Some(folder) = &asked.folder {
-        folder.make()?;
-    }
-    let table = search(alloc, &asked)?;
-    print(&asked, alloc, &table, out)
+    let folder = Folder {
+        files,
+        alloc,
+        path,
+        patches,
+    };
+    folder.make()?;
+    let table = asked.search(alloc)?;
+    folder.write(&asked.start, &table)?;
+    let (count, all) = (table.len(), yes_or_no(table.is_whole()));
+    let Ok(text) = format!(in alloc; "flashes {count}\nall {all}\n") else {
+        return Err(Refusal::Memory);
+    };
+    write_text(out, text.as_bytes())?;
+    Ok(())
+}
+
+/// Prints the table.
+///
+/// # Errors
+///
+/// Those of `search`; `Write`.
+fn print<O: Write>(alloc: Global, asked: &VectorsAsked<'_>, out: &mut O) -> Result<(), Refusal>
+    requires few { IsFew asked.now.cuts }
+    requires printed { asked.now.folder ≡ None }
+    ensures { AnswersVectors asked.now (O.contents out.old) (O.contents out.new) result }
+{
+    let table = asked.search(alloc)?;
+    table.write(out)?;
+    Ok(())
 }

@@ -1,24 +1,31 @@
 //! `verify`: is a file a valid image?
+ghost use Rattle.mc_actions.specs.Images.{AnswersInfile};
+ghost use Rattle.mc_imgtool.specs.Lines.{verified};
+
 use crate::infile::open_infile;
-use clap::ArgMatches;
 use mc_options::Refusal;
 use std::io::{Read, Write};
 use std::rt::Files;
 
-/// Prints the line for the valid image of INFILE, or of standard input where INFILE is left out.
+/// Prints the line for the valid image of INFILE, or of standard input where no file is named.
 ///
 /// # Errors
 ///
 /// `Open` where INFILE cannot be opened, and what the image tool refuses.
-pub fn run<F: Files, R: Read, O: Write>(
+pub fn answer<F: Files, R: Read, O: Write>(
     files: &F,
-    arguments: &ArgMatches<'_>,
+    infile: Option<&str>,
     input: &mut R,
     out: &mut O,
-) -> Result<(), Refusal> {
-    match open_infile(files, arguments)? {
-        Some(mut file) => mc_imgtool::verify(&mut file, out)?,
-        None => mc_imgtool::verify(input, out)?,
+) -> Result<(), Refusal>
+    ensures { AnswersInfile verified infile.entry (R.remaining input.old) (O.contents out.old)
+        (O.contents out.new) result }
+{
+    match infile {
+        Some(path) => {
+            let mut file = open_infile(files, path)?;
+            mc_imgtool::verify(&mut file, out).map_err(Refusal::Tool)
+        }
+        None => mc_imgtool::verify(input, out).map_err(Refusal::Tool),
     }
-    Ok(())
 }

@@ -1,12 +1,20 @@
--- Where a dump occurs in a swap of two images.
-use Rattle.std.specs.Prelude.{Ok, ◌≡◌}
+-- What a dump is, and where it occurs in a swap of two images.
+use Rattle.std.specs.Prelude.{Bool, List, None, Ok, Option, Some, codes, false, length, ℕ, ◌&&◌, ◌++◌, ◌≡◌, ◌≤◌, ◌⊎◌}
+use Rattle.clap.specs.declared.parser.matches.Found.{Found as Words}
+use Rattle.mc_actions.specs.Layouts.{yes_or_no}
 use Rattle.mc_boot.specs.declared.kind.Kind.{Kind}
 use Rattle.mc_boot.specs.declared.kind.Kind.TheVariants as kinds
-use Rattle.mc_flash.specs.Geometry.{Geometry}
-use Rattle.mc_start.specs.Start.{Started, Starts, begun}
+use Rattle.mc_explore.specs.Rows.{subject}
+use Rattle.mc_flash.specs.{Flash.{Content}, Geometry.{Geometry}, declared.flash.FlashError.{FlashError}}
+use Rattle.mc_options.specs.{Arguments.{GivesLayout, GivesRules, kind_text}, Requests.{End, IsAnswered, IsDone, IsUnwritten}, declared.refusal.Refusal.{Refusal}}
+use Rattle.mc_options.specs.declared.refusal.Refusal.TheVariants as refusals
+use Rattle.mc_start.specs.{Start.{Started, Starts, begun}, declared.start.StartError.{StartError}}
+use Rattle.mc_trace.specs.Inspection.{inspection_text}
+use Rattle.mc_trace.specs.declared.error.TraceError.TheVariants as errors
 use Rattle.mc_trailer.specs.declared.tables.Rules.{Rules}
-use Rattle.mc_vectors.specs.{Cases.{AtMost}, Locating.{IsNearest}}
-use Rattle.mc_command.specs.{declared.inspect.Found.{Found}, declared.inspect.Images.{Images}}
+use Rattle.mc_vectors.specs.{Cases.{AtMost}, Locating.{IsNearest, located_text}}
+use Rattle.mc_verdict.specs.{Requests.{CensusAsked, EndsCensus, RefusesCensus, counts_text}, Verdicts.{GivesAsked}}
+use Rattle.mc_command.specs.{declared.inspect.Found.{Found}, declared.inspect.Images.{Images}, declared.inspect.Inspected.{Inspected}, declared.inspect.LocateAsked.{LocateAsked}}
 
 -- The image in the primary at the start of a swap of that kind, and the one in the secondary: a revert takes the test of b back.
 abbrev pub first_of : {A : Type 0} → Kind → A → A → A
@@ -29,3 +37,66 @@ pub record IsFound (images : Images) (flash : Started) (found : Found) : Type 0 
   pub start : Started
   pub swap : IsSwapOf images flash.geometry flash.rules found.kind start
   pub nearest : IsNearest (begun start) (AtMost 16) flash.content found.located.schedule
+
+-- The words give the layout of a dump, and the rules of the boots from there.
+pub record GivesDump (words : Words) (s : Started) : Type 0 where
+  pub layout : GivesLayout words s.geometry
+  pub rules : GivesRules words s.rules
+
+-- And what is asked of all schedules of at most 16 cuts from there.
+pub record GivesInspect (words : Words) (i : Inspected) : Type 0 where
+  pub dump : GivesDump words i.wanted.start
+  pub asked : GivesAsked words i.wanted.asked
+  pub cuts : i.wanted.cuts ≡ 16
+  pub plain : i.wanted.images_return ≡ false
+
+-- What the slots would hold with the known images, if they are given.
+abbrev pub AreNamed : Inspected → Option Content → Type 0
+AreNamed i None = i.images ≡ None
+AreNamed i (Some content) =
+    (images : Images) × (i.images ≡ Some images) × (s : Started) × IsSwapOf images i.wanted.start.geometry i.wanted.start.rules kinds.None s × (content ≡ s.content)
+
+-- The known images are refused, or an allocation failed.
+abbrev pub RefusesNamed : Refusal → Type 0
+RefusesNamed e = ((error : StartError) × (e ≡ refusals.Start error)) ⊎ ((error : FlashError) × (e ≡ refusals.Flash error))
+
+-- What a dump is, with the census from there.
+pub record Inspection (i : Inspected) : Type 0 where
+  pub census : CensusAsked subject i.wanted
+  pub named : Option Content
+  pub are : AreNamed i named
+
+abbrev pub AnswersInspect : Inspected → Option (List ℕ) → Option (List ℕ) → End → Type 0
+AnswersInspect i =
+    IsAnswered (λ (a : Inspection i). inspection_text (begun i.wanted.start) a.named ++ counts_text subject a.census.counts)
+    (λ a. EndsCensus subject i.wanted a.census) (λ e. RefusesCensus i.wanted e ⊎ (RefusesNamed e ⊎ (e ≡ refusals.Trace errors.Memory)))
+    (λ e. IsUnwritten e ⊎ (e ≡ refusals.Trace errors.Write))
+
+-- Where a flash occurs in the three swaps of two images: the nearest of them.
+abbrev pub far : Found → ℕ
+far found = length found.located.differs.items
+
+pub record LocatedIn (l : LocateAsked) : Type 0 where
+  pub test : Found
+  pub test_is : (test.kind ≡ kinds.Test) × IsFound l.images l.flash test
+  pub perm : Found
+  pub perm_is : (perm.kind ≡ kinds.Perm) × IsFound l.images l.flash perm
+  pub revert : Found
+  pub revert_is : (revert.kind ≡ kinds.Revert) × IsFound l.images l.flash revert
+  pub found : Found
+  pub one_of : (found ≡ test) ⊎ ((found ≡ perm) ⊎ (found ≡ revert))
+  pub nearest : (far found ≤ far test) × (far found ≤ far perm) × (far found ≤ far revert)
+
+-- No number of cuts leaves a nearer one in any of them.
+abbrev pub are_whole : {l : LocateAsked} → LocatedIn l → Bool
+are_whole a = a.test.located.whole && a.perm.located.whole && a.revert.located.whole
+
+abbrev pub IsNearestOf : LocateAsked → Found × Bool → Type 0
+IsNearestOf l found = (a : LocatedIn l) × (a.found ≡ found.0) × (are_whole a ≡ found.1)
+
+abbrev pub swap_text : {l : LocateAsked} → LocatedIn l → List ℕ
+swap_text a =
+    (codes "swap " ++ (kind_text a.found.kind ++ codes "\n")) ++ (located_text a.found.located ++ (codes "all " ++ (yes_or_no (are_whole a) ++ codes "\n")))
+
+abbrev pub AnswersLocate : LocateAsked → Option (List ℕ) → Option (List ℕ) → End → Type 0
+AnswersLocate l = IsAnswered (λ (a : LocatedIn l). swap_text a) IsDone (λ e. RefusesNamed e ⊎ (e ≡ refusals.Memory)) IsUnwritten

@@ -1,2 +1,4 @@
 pub mod Inspections
 pub mod Pictures
+pub mod Tears
+pub mod Commands

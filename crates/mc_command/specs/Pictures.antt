@@ -1,6 +1,14 @@
--- How many operations a picture shows.
-use Rattle.std.specs.Prelude.{List, [], min, ℕ, ◌+◌, ◌-◌, ◌∷◌}
-use Rattle.mc_trace.specs.declared.trace.Span.{Span}
+-- How many operations a picture shows, and how it is answered.
+use Rattle.std.specs.Prelude.{List, Option, [], min, ℕ, ◌+◌, ◌-◌, ◌<◌, ◌∷◌, ◌≡◌, ◌⊎◌}
+use Rattle.mc_actions.specs.declared.schedule.Scheduled.{Scheduled}
+use Rattle.mc_boot.specs.Outcome.{Report}
+use Rattle.mc_explore.specs.{Schedules.{IsReplayed, RefusesReplay}, declared.replays.ReplayError.{ReplayError}}
+use Rattle.mc_flash.specs.Flash.{Content}
+use Rattle.mc_options.specs.{Requests.{End, IsAnswered, IsDone}, declared.refusal.Refusal.{Refusal}}
+use Rattle.mc_options.specs.declared.refusal.Refusal.TheVariants as refusals
+use Rattle.mc_start.specs.Start.{begun}
+use Rattle.mc_trace.specs.{Picture.{IsPicture}, declared.error.TraceError.{TraceError}, declared.trace.Span.{Span}}
+use Rattle.mc_verdict.specs.{Verdicts.{expected_ends}, declared.verdict.Ends.{Ends}}
 
 -- So many of the first n numbers lie in a span.
 abbrev pub within : Span → ℕ → ℕ
@@ -10,3 +18,28 @@ within span n = min n (span.to + 1) - span.from
 abbrev pub rows_in : Span → List ℕ → ℕ → ℕ
 rows_in span [] last = within span last
 rows_in span (cut ∷ cuts) last = within span (cut + 1) + rows_in span cuts last
+
+-- The picture of a schedule, for what is expected of its slots.
+pub record Drawn (s : Scheduled) (ends : Ends) (span : Span) : Type 0 where
+  pub text : List ℕ
+  pub is : IsPicture (expected_ends ends s.start.named) span (begun s.start) s.schedule text
+
+-- There would be more operations in it than a browser can show.
+pub record IsLarge (s : Scheduled) (span : Span) : Type 0 where
+  pub outcome : Report
+  pub left : Content
+  pub replayed : IsReplayed (begun s.start) s.schedule outcome left
+  pub many : 20000 < rows_in span s.schedule outcome.ops
+
+-- An allocation fails while it is drawn, or a write.
+abbrev pub IsUndrawn : Refusal → Type 0
+IsUndrawn e = (error : TraceError) × (e ≡ refusals.Trace error)
+
+-- When there is none: a cut can't occur; or it is large; or an allocation failed.
+abbrev pub RefusesPicture : Scheduled → Span → Refusal → Type 0
+RefusesPicture s span e =
+    ((error : ReplayError) × (e ≡ refusals.Replay error) × RefusesReplay (begun s.start) s.schedule error)
+    ⊎ (((e ≡ refusals.LargePicture) × IsLarge s span) ⊎ IsUndrawn e)
+
+abbrev pub AnswersPicture : Scheduled → Ends → Span → Option (List ℕ) → Option (List ℕ) → End → Type 0
+AnswersPicture s ends span = IsAnswered (λ (d : Drawn s ends span). d.text) IsDone (RefusesPicture s span) IsUndrawn

@@ -1,16 +1,18 @@
 //! `inspect` and `locate`: what a dump of a device is, and where it occurs in a swap of two images.
-ghost use Rattle.std.specs.Prelude.{◌≡◌, ◌<◌, ◌≤◌, length, IfOk};
+ghost use Rattle.std.specs.Prelude.{◌≡◌, ◌<◌, ◌≤◌, ◌&&◌, length, IfErr, IfOk, IfSome, option_map};
 ghost use Rattle.clap.specs.Matches.{found_of};
 ghost use Rattle.mc_options.specs.Arguments.{GivesLayout, GivesRules};
-ghost use Rattle.mc_command.specs.Inspections.{IsFound, IsSwapOf, first_of, second_of};
+ghost use Rattle.mc_command.specs.Inspections.{AnswersInspect, AnswersLocate, AreNamed, GivesDump, GivesInspect, IsFound, IsNearestOf, IsSwapOf, RefusesNamed, first_of, second_of};
 
 use clap::ArgMatches;
+use mc_actions::trailers::yes_or_no;
 use mc_explore::{Kind, Schedules, Start};
 use mc_flash::{FlashError, JournalFlash, Layout};
 use mc_options::{
     GREATEST_FLASH, GREATEST_IMAGE, Refusal, kind_name, layout_options, read_file, required,
     rules_options,
 };
+use mc_output::write_text;
 use mc_trace::write_inspection;
 use mc_trailer::Rules;
 use mc_vectors::{Located, locate, write_located};
@@ -25,7 +27,7 @@ const MOST_CUTS: u8 = 16;
 
 /// What lies in two files of images.
 #[derive(Drop)]
-struct Images {
+pub struct Images {
     a: Vec<u8>,
     b: Vec<u8>,
 }
@@ -76,10 +78,13 @@ impl Images {
     ) -> Result<Start, Refusal>
         ensures layout { IfOk result (λ start. start.geometry ≡ layout.now) }
         ensures swap { IfOk result (IsSwapOf self.now layout.now rules kind) }
+        ensures refused { IfErr result RefusesNamed }
     {
         let (first, second) = in_order(kind, self.a.as_slice(), self.b.as_slice());
-        let start = Start::from_images(alloc, layout, kind, first, second)?;
-        Ok(start.with_rules(rules))
+        match Start::from_images(alloc, layout, kind, first, second) {
+            Ok(start) => Ok(start.with_rules(rules)),
+            Err(error) => Err(Refusal::Start(error)),
+        }
     }
 }
 
@@ -116,7 +121,8 @@ impl<'a> Dump<'a> {
     ///
     /// What `read_file` refuses; `Start` where they are not as many as both slots have.
     fn read<F: Files>(&self, files: &F, alloc: Global) -> Result<Start, Refusal>
-        ensures { IfOk result (λ start. start.geometry ≡ self.now.layout) }
+        ensures layout { IfOk result (λ start. start.geometry ≡ self.now.layout) }
+        ensures rules { IfOk result (λ start. start.rules ≡ self.now.rules) }
     {
         let bytes = read_file(files, alloc, self.path, GREATEST_FLASH)?;
         let start = Start::from_flash(alloc, &self.layout, bytes.as_slice())?;
@@ -124,24 +130,24 @@ impl<'a> Dump<'a> {
     }
 }
 
-/// The census of a dump that is to be taken, and the images that are known.
+/// What `inspect` is asked for: the census of a dump that is to be taken, and the images that are known.
 #[derive(Drop)]
-struct Inspected {
+pub struct Inspected {
     wanted: Wanted<()>,
     images: Option<Images>,
 }
 
-/// What the options give to be explained. They are checked before a file is touched.
+/// What `inspect` is asked for. The words are checked before a file is touched.
 ///
 /// # Errors
 ///
 /// Those of `Dump::named` and `Asked::read`; `NeverSwaps`; those of `Images::read` and `Dump::read`.
-fn read<F: Files>(
+pub fn read<F: Files>(
     files: &F,
     alloc: Global,
     arguments: &ArgMatches<'_>,
 ) -> Result<Inspected, Refusal>
-    ensures range { IfOk result (λ inspected. inspected.wanted.cuts ≤ 16) }
+    ensures given { IfOk result (GivesInspect (found_of arguments.now)) }
 {
     let dump = match Dump::named(arguments) {
         Ok(dump) => dump,
@@ -157,46 +163,52 @@ fn read<F: Files>(
     })
 }
 
-/// Prints what a dump is, and its sectors by those of the known images, if they are given.
+/// The start of the known images, if they are given.
 ///
 /// # Errors
 ///
-/// `Start` of the images; `Trace` for want of memory, or where the output fails.
-fn print<O: Write>(alloc: Global, inspected: &Inspected, out: &mut O) -> Result<(), Refusal> {
-    let start = inspected.wanted.start();
-    match &inspected.images {
+/// `Start` with what is refused of the images.
+fn named_start(alloc: Global, asked: &Inspected) -> Result<Option<Start>, Refusal>
+    ensures named { IfOk result (λ named. AreNamed asked.now
+        (option_map (λ start. start.content) named)) }
+    ensures layout { IfOk result (λ named. IfSome named
+        (λ start. start.geometry ≡ asked.now.wanted.start.geometry)) }
+    ensures refused { IfErr result RefusesNamed }
+{
+    let start = asked.wanted.start();
+    match &asked.images {
         Some(images) => {
             let named = images.start_of(alloc, start.layout(), start.rules(), Kind::None)?;
-            write_inspection::<JournalFlash, O>(alloc, start, Some(&named), out)?;
+            Ok(Some(named))
         }
-        None => write_inspection::<JournalFlash, O>(alloc, start, None, out)?,
+        None => Ok(None),
     }
-    Ok(())
 }
 
 /// Explains a dump: a verdict on the next boot, its trailers, what its slots hold, its sectors by those of the known images if they are given,
-/// the boot from there, and what all schedules of at most 16 cuts come to. The words are checked before a file is touched.
+/// the boot from there, and what all schedules of at most 16 cuts come to.
 ///
 /// # Errors
 ///
-/// Those of `read` and `print`; `Expectation`; `Explore` for want of memory; `Write`. Where a verdict on the schedules is asked also
-/// `NotAllBoot` and `NotAllRight`; the output is written then.
-pub fn run<F: Files, O: Write>(
-    files: &F,
-    alloc: Global,
-    arguments: &ArgMatches<'_>,
-    out: &mut O,
-) -> Result<(), Refusal> {
-    let inspected = read(files, alloc, arguments)?;
+/// `Start` of the images; `Expectation`; `Explore` and `Trace` for want of memory; `Trace` and `Write` where the output fails. Where a verdict on
+/// the schedules is asked also `NotAllBoot` and `NotAllRight`; the output is written then.
+pub fn answer<O: Write>(alloc: Global, asked: &Inspected, out: &mut O) -> Result<(), Refusal>
+    requires { asked.now.wanted.cuts ≤ 16 }
+    ensures { AnswersInspect asked.now (O.contents out.old) (O.contents out.new) result }
+{
     // Before anything is written, so that want of memory leaves no beginning.
-    let counts = count::<Schedules>(alloc, &inspected.wanted)?;
-    print(alloc, &inspected, out)?;
-    conclude::<Schedules, O>(&counts, inspected.wanted.asked(), out)
+    let counts = count::<Schedules>(alloc, &asked.wanted)?;
+    let named = named_start(alloc, asked)?;
+    let start = asked.wanted.start();
+    match write_inspection::<JournalFlash, O>(alloc, start, named.as_ref(), out) {
+        Ok(()) => conclude::<Schedules, O>(&counts, &asked.wanted, out),
+        Err(error) => Err(Refusal::Trace(error)),
+    }
 }
 
 /// A swap, and where a flash occurs in it.
 #[derive(Drop)]
-struct Found {
+pub struct Found {
     kind: Kind,
     located: Located,
 }
@@ -209,6 +221,7 @@ struct Found {
 fn find_in(alloc: Global, flash: &Start, images: &Images, kind: Kind) -> Result<Found, Refusal>
     ensures found { IfOk result (IsFound images.now flash.now) }
     ensures kind { IfOk result (λ found. found.kind ≡ kind) }
+    ensures refused { IfErr result RefusesNamed }
 {
     let start = images.start_of(alloc, flash.layout(), flash.rules(), kind)?;
     let (primary, secondary) = (flash.primary(), flash.secondary());
@@ -232,19 +245,25 @@ fn nearer(first: Found, second: Found) -> Found
     }
 }
 
-/// Prints after which schedule of a swap of the known images a dump occurs, the first such, or which sectors differ from the nearest flash
-/// of these; and whether no number of cuts leaves a nearer one in any of these swaps. A test is tried first, then a swap for good, then the
-/// revert of the test. The words are checked before a file is touched.
+/// What `locate` is asked for: a dump, and the images of a swap.
+#[derive(Drop)]
+pub struct LocateAsked {
+    flash: Start,
+    images: Images,
+}
+
+/// What `locate` is asked for. The words are checked before a file is touched.
 ///
 /// # Errors
 ///
-/// Those of `Dump::named`, `Images::read` and `Dump::read`; `Source` where no images are given; those of `find_in`; `Write`.
-pub fn find<F: Files, O: Write>(
+/// Those of `Dump::named`, `Images::read` and `Dump::read`; `Source` where no images are given.
+pub fn read_locate<F: Files>(
     files: &F,
     alloc: Global,
     arguments: &ArgMatches<'_>,
-    out: &mut O,
-) -> Result<(), Refusal> {
+) -> Result<LocateAsked, Refusal>
+    ensures { IfOk result (λ asked. GivesDump (found_of arguments.now) asked.flash) }
+{
     let dump = match Dump::named(arguments) {
         Ok(dump) => dump,
         Err(refusal) => return Err(refusal),
@@ -253,22 +272,54 @@ pub fn find<F: Files, O: Write>(
         return Err(Refusal::Source);
     };
     let flash = dump.read(files, alloc)?;
-    let test = find_in(alloc, &flash, &images, Kind::Test)?;
-    let perm = find_in(alloc, &flash, &images, Kind::Perm)?;
-    let revert = find_in(alloc, &flash, &images, Kind::Revert)?;
-    let whole = test.located.whole && perm.located.whole && revert.located.whole;
-    print_found(&nearer(nearer(test, perm), revert), whole, out)
+    Ok(LocateAsked { flash, images })
 }
 
-/// Prints a swap, where a flash occurs in it, and whether no number of cuts leaves a nearer one in any swap.
+/// Whether no number of cuts leaves a nearer flash in any of three swaps.
+fn are_whole(test: &Found, perm: &Found, revert: &Found) -> bool
+    ensures { result ≡ (test.now.located.whole && perm.now.located.whole
+        && revert.now.located.whole) }
+{
+    test.located.whole && perm.located.whole && revert.located.whole
+}
+
+/// The nearest place of a dump in the three swaps of the images, and whether no number of cuts leaves a nearer flash in any of them.
 ///
 /// # Errors
 ///
-/// `Write`.
-fn print_found<O: Write>(found: &Found, whole: bool, out: &mut O) -> Result<(), Refusal> {
-    let all = if whole { "yes" } else { "no" };
-    let kind = kind_name(found.kind);
-    writeln!(out, "swap {kind}").map_err(|_| Refusal::Write)?;
+/// Those of `find_in`.
+fn nearest(alloc: Global, asked: &LocateAsked) -> Result<(Found, bool), Refusal>
+    ensures nearest { IfOk result (IsNearestOf asked.now) }
+    ensures refused { IfErr result RefusesNamed }
+{
+    let (flash, images) = (&asked.flash, &asked.images);
+    let test = find_in(alloc, flash, images, Kind::Test)?;
+    let perm = find_in(alloc, flash, images, Kind::Perm)?;
+    let revert = find_in(alloc, flash, images, Kind::Revert)?;
+    let whole = are_whole(&test, &perm, &revert);
+    Ok((nearer(nearer(test, perm), revert), whole))
+}
+
+/// Prints after which schedule of a swap of the known images a dump occurs, the first such, or which sectors differ from the nearest flash
+/// of these; and whether no number of cuts leaves a nearer one in any of these swaps. A test is tried first, then a swap for good, then the
+/// revert of the test.
+///
+/// # Errors
+///
+/// Those of `find_in`; `Memory`; `Write`.
+pub fn locate_in<O: Write>(alloc: Global, asked: &LocateAsked, out: &mut O) -> Result<(), Refusal>
+    ensures { AnswersLocate asked.now (O.contents out.old) (O.contents out.new) result }
+{
+    let (found, whole) = nearest(alloc, asked)?;
+    let (kind, all) = (kind_name(found.kind), yes_or_no(whole));
+    let Ok(head) = format!(in alloc; "swap {kind}\n") else {
+        return Err(Refusal::Memory);
+    };
+    let Ok(last) = format!(in alloc; "all {all}\n") else {
+        return Err(Refusal::Memory);
+    };
+    write_text(out, head.as_bytes())?;
     write_located(&found.located, out)?;
-    writeln!(out, "all {all}").map_err(|_| Refusal::Write)
+    write_text(out, last.as_bytes())?;
+    Ok(())
 }

@@ -1,30 +1,31 @@
 //! The commands of `mcsim`, over the image tool, the flashes and the boots, and the exit status of a command line.
 #![tactic(auto)]
 
-ghost use Rattle.std.specs.Prelude.{◌≤◌};
+ghost use Rattle.std.specs.Prelude.{◌≡◌, ◌≤◌, ◌⊎◌, codes};
+ghost use Rattle.clap.specs.Matches.{found_of};
+ghost use Rattle.mc_actions.specs.Lives.{AnswersLife, GivesLife};
+ghost use Rattle.mc_command.specs.Commands.{Answers, Asks, IsApart};
+ghost use Rattle.mc_options.specs.Requests.{IsRun};
 
 mod inspect;
 mod picture;
+mod request;
 mod tears;
 
 use clap::error::ErrorKind;
 use clap::{ArgMatches, Error};
-use mc_actions::rounds::{RoundText, print as print_rounds};
-use mc_actions::{
-    create, dumpinfo, explain, layout, life, replay, rounds, trace, trailers, vectors, verify,
-};
-use mc_campaign::Campaigns;
+pub use inspect::{Inspected, LocateAsked};
+use mc_actions::{explain, life};
 use mc_cli::{WatchedFiles, WatchedWriter, left_out, parse};
-use mc_explore::Schedules;
 use mc_options::{
-    Refusal, asks_file, flush, has_two_rounds, print_cost, print_note, report_file, report_reason,
-    span_options, view_options, with_files,
+    Refusal, asks_file, flush, print_cost, print_note, report_file, report_reason, with_files,
 };
 use mc_output::WriteFailed;
-use mc_verdict::{census, explore};
+pub use request::Request;
 use std::alloc::Global;
 use std::io::{Read, Write};
 use std::rt::Files;
+pub use tears::TearsAsked;
 
 /// Runs one command line, whose first word is the program's name, and returns the exit status: 0 where it is done, 1
 /// where a content is refused, 2 where the command line is refused, 3 where a file, a write or memory fails.
@@ -137,6 +138,10 @@ fn left_out_of(words: &[String]) -> Option<(&'static str, &'static str)> {
 }
 
 /// Runs the command of that name.
+///
+/// # Errors
+///
+/// Those of the command.
 fn run_command<F: Files, R: Read, O: Write, E: Write>(
     files: &WatchedFiles<'_, F>,
     alloc: Global,
@@ -145,114 +150,57 @@ fn run_command<F: Files, R: Read, O: Write, E: Write>(
     input: &mut R,
     out: &mut O,
     err: &mut E,
-) -> Result<(), Refusal> {
+) -> Result<(), Refusal>
+    ensures request { IsApart name.now ⊎ IsRun (Asks name.now (found_of arguments.now))
+        (λ request. Answers request (R.remaining input.old)) (O.contents out.old)
+        (O.contents out.new) result }
+    ensures life { name.now ≡ codes "life" → IsRun (GivesLife (found_of arguments.now))
+        AnswersLife (O.contents out.old) (O.contents out.new) result }
+{
     match name {
-        "create" => create::run(files, alloc, arguments, input, out),
-        "verify" => verify::run(files, arguments, input, out),
-        "dumpinfo" => dumpinfo::run(files, alloc, arguments, input, out, err),
-        "layout" => layout::run(arguments, out),
-        "life" => life::run(files, alloc, arguments, input, out),
+        "life" => run_life(files, alloc, arguments, input, out),
         "explain" => explain::run(arguments, out),
-        _ => run_boots(files, alloc, name, arguments, out),
+        _ => run_request(files, alloc, name, arguments, input, out, err),
     }
 }
 
-/// Runs a command on the boots of a flash.
-fn run_boots<F: Files, O: Write>(
+/// Runs a command: what its words ask for is read, and answered.
+///
+/// # Errors
+///
+/// Those of `Request::read` and `Request::answer`.
+pub fn run_request<F: Files, R: Read, O: Write, E: Write>(
     files: &WatchedFiles<'_, F>,
     alloc: Global,
     name: &str,
     arguments: &ArgMatches<'_>,
+    input: &mut R,
     out: &mut O,
-) -> Result<(), Refusal> {
-    match name {
-        "type" => trailers::run(files, alloc, arguments, out),
-        "boot" => replay::boot(files, alloc, arguments, out),
-        "picture" => picture::run(files, alloc, arguments, out),
-        "tears" => tears::run(files, alloc, arguments, out),
-        "vectors" => vectors::run(files, alloc, arguments, out),
-        "inspect" => inspect::run(files, alloc, arguments, out),
-        "locate" => inspect::find(files, alloc, arguments, out),
-        "replay" | "trace" | "sectors" => run_schedule(files, alloc, name, arguments, out),
-        _ => run_exploration(files, alloc, name, arguments, out),
-    }
+    err: &mut E,
+) -> Result<(), Refusal>
+    ensures { IsRun (Asks name.now (found_of arguments.now))
+        (λ request. Answers request (R.remaining input.old)) (O.contents out.old)
+        (O.contents out.new) result }
+{
+    let request = Request::read(files, alloc, name, arguments)?;
+    request.answer(files, alloc, input, out, err)
 }
 
-/// Runs a command on one schedule of power cuts, or on one campaign of two rounds.
-fn run_schedule<F: Files, O: Write>(
+/// Runs `life`, whose script may be standard input.
+///
+/// # Errors
+///
+/// Those of `life::read` and `life::answer`.
+fn run_life<F: Files, R: Read, O: Write>(
     files: &WatchedFiles<'_, F>,
     alloc: Global,
-    name: &str,
     arguments: &ArgMatches<'_>,
+    input: &mut R,
     out: &mut O,
-) -> Result<(), Refusal> {
-    match (name, has_two_rounds(arguments)?) {
-        ("replay", true) => rounds::replay(files, alloc, arguments, out),
-        ("trace", true) => {
-            let text = RoundText::Operations(span_options(arguments)?);
-            print_rounds(files, alloc, arguments, text, out)
-        }
-        (_, true) => {
-            let text = RoundText::Sectors(view_options(arguments)?);
-            print_rounds(files, alloc, arguments, text, out)
-        }
-        ("replay", false) => replay::run(files, alloc, arguments, out),
-        ("trace", false) => trace::run(files, alloc, arguments, out),
-        (_, false) => trace::sectors(files, alloc, arguments, out),
-    }
-}
-
-/// Runs a command on many schedules of power cuts.
-fn run_exploration<F: Files, O: Write>(
-    files: &F,
-    alloc: Global,
-    name: &str,
-    arguments: &ArgMatches<'_>,
-    out: &mut O,
-) -> Result<(), Refusal> {
-    match name {
-        "explore" => {
-            let (asked, rows) = explore::ask::<Schedules, F>(files, alloc, arguments)?;
-            explore::run::<Schedules, O>(&rows, &asked, alloc, out)
-        }
-        "campaign" => {
-            let (asked, rows) = explore::ask::<Campaigns, F>(files, alloc, arguments)?;
-            explore::run::<Campaigns, O>(&rows, &asked, alloc, out)
-        }
-        "survey" => run_survey(files, alloc, arguments, out),
-        "census" => run_census(files, alloc, arguments, out),
-        _ => Err(Refusal::Argument),
-    }
-}
-
-/// Counts all schedules of power cuts, or all campaigns of two rounds.
-fn run_census<F: Files, O: Write>(
-    files: &F,
-    alloc: Global,
-    arguments: &ArgMatches<'_>,
-    out: &mut O,
-) -> Result<(), Refusal> {
-    if has_two_rounds(arguments)? {
-        let wanted = census::read::<Campaigns, F>(files, alloc, arguments)?;
-        census::run::<Campaigns, O>(&wanted, alloc, out)
-    } else {
-        let wanted = census::read::<Schedules, F>(files, alloc, arguments)?;
-        census::run::<Schedules, O>(&wanted, alloc, out)
-    }
-}
-
-/// Runs a survey of schedules, or of campaigns of two rounds.
-fn run_survey<F: Files, O: Write>(
-    files: &F,
-    alloc: Global,
-    arguments: &ArgMatches<'_>,
-    out: &mut O,
-) -> Result<(), Refusal> {
-    if has_two_rounds(arguments)? {
-        let (asked, rows) = explore::ask::<Campaigns, F>(files, alloc, arguments)?;
-        explore::survey::<Campaigns, O>(&rows, &asked, alloc, out)
-    } else {
-        let (asked, rows) = explore::ask::<Schedules, F>(files, alloc, arguments)?;
-        explore::survey::<Schedules, O>(&rows, &asked, alloc, out)
-    }
+) -> Result<(), Refusal>
+    ensures { IsRun (GivesLife (found_of arguments.now)) AnswersLife (O.contents out.old)
+        (O.contents out.new) result }
+{
+    let life = life::read(files, alloc, arguments, input)?;
+    life::answer(files, alloc, &life, out)
 }

@@ -1,14 +1,16 @@
 //! `picture`: a page that shows the boots of a schedule.
 ghost use Rattle.std.specs.Prelude.{◌≡◌, ◌<◌, ◌≤◌, ◌+◌, ◌*◌, ◌^◌, IfOk, MatchResult, length};
-ghost use Rattle.mc_command.specs.Pictures.{rows_in, within};
-ghost use Rattle.mc_start.specs.Start.{begun};
-ghost use Rattle.mc_trace.specs.Picture.{Draws};
+ghost use Rattle.clap.specs.Matches.{found_of};
+ghost use Rattle.mc_actions.specs.Schedules.{GivesScheduled};
+ghost use Rattle.mc_command.specs.Pictures.{AnswersPicture, rows_in, within};
+ghost use Rattle.mc_options.specs.Arguments.{GivesSpan};
+ghost use Rattle.mc_verdict.specs.Verdicts.{GivesEnds};
 
 use clap::ArgMatches;
 use mc_actions::schedule::{Scheduled, read_schedule};
-use mc_explore::{Expectation, replay};
+use mc_explore::replay;
 use mc_flash::JournalFlash;
-use mc_options::{Refusal, finish, in_blocks, span_options};
+use mc_options::{Refusal, span_options};
 use mc_trace::{Span, write_picture};
 use mc_verdict::Ends;
 use std::alloc::Global;
@@ -55,52 +57,51 @@ fn check_rows(span: Span, cuts: &[u32], last: u32) -> Result<(), Refusal>
     Ok(())
 }
 
+/// What `picture` is asked for: a schedule, what the slots are to hold at the end, and from which of each boot's operations to which.
+///
+/// # Errors
+///
+/// What `Ends::read`, `span_options` and `read_schedule` refuse.
+pub fn read<F: Files>(
+    files: &F,
+    alloc: Global,
+    arguments: &ArgMatches<'_>,
+) -> Result<(Scheduled, Ends, Span), Refusal>
+    ensures schedule { IfOk result (λ asked. GivesScheduled (found_of arguments.now) asked.0) }
+    ensures ends { IfOk result (λ asked. GivesEnds (found_of arguments.now) asked.1) }
+    ensures span { IfOk result (λ asked. GivesSpan (found_of arguments.now) asked.2) }
+{
+    let ends = Ends::read(arguments)?;
+    let span = span_options(arguments)?;
+    let given = read_schedule(files, alloc, arguments)?;
+    Ok((given, ends, span))
+}
+
 /// Prints a page that shows the boots which a schedule cuts and the last boot, operation by operation, those in a span, and what all schedules
 /// of at most 16 cuts come to.
 ///
 /// # Errors
 ///
-/// What `Ends::read`, `span_options` and `read_schedule` refuse; `Replay` where a cut can't occur, or for want of memory; `LargePicture` where it
-/// would show more than 20,000 operations; those of `draw`.
-pub fn run<F: Files, O: Write>(
-    files: &F,
-    alloc: Global,
-    arguments: &ArgMatches<'_>,
-    out: &mut O,
-) -> Result<(), Refusal> {
-    let ends = Ends::read(arguments)?;
-    let span = span_options(arguments)?;
-    let given = read_schedule(files, alloc, arguments)?;
-    let (outcome, _) = replay::<JournalFlash>(alloc, &given.start, &given.schedule)?;
-    check_rows(span, given.schedule.cuts(), outcome.ops)?;
-    let expectation = ends.expectation(given.start.named());
-    draw(alloc, &given, &expectation, span, out)?;
-    Ok(())
-}
-
-/// Draws the page, and gives back the writer that has it.
-///
-/// # Errors
-///
-/// `Trace` where a cut can't occur, or for want of memory; `Trace` and `Write` where the output fails.
-fn draw<O: Write + Drop>(
+/// `Replay` where a cut can't occur, or for want of memory; `LargePicture` where it would show more than 20,000 operations; `Trace` for want of
+/// memory, or where the output fails.
+pub fn answer<O: Write>(
     alloc: Global,
     given: &Scheduled,
-    expectation: &Expectation,
+    ends: &Ends,
     span: Span,
-    out: O,
-) -> Result<O, Refusal>
-    ensures { IfOk result (λ written. Draws expectation.now span (begun given.now.start)
-        given.now.schedule (O.contents out) (O.contents written)) }
+    out: &mut O,
+) -> Result<(), Refusal>
+    ensures { AnswersPicture given.now ends.now span (O.contents out.old) (O.contents out.new)
+        result }
 {
-    let mut blocks = in_blocks(alloc, out)?;
-    write_picture::<JournalFlash, _>(
-        alloc,
-        &given.start,
-        &given.schedule,
-        expectation,
-        span,
-        &mut blocks,
-    )?;
-    Ok(finish(blocks)?)
+    let (start, schedule) = (&given.start, &given.schedule);
+    let outcome = match replay::<JournalFlash>(alloc, start, schedule) {
+        Ok((outcome, _)) => outcome,
+        Err(error) => return Err(Refusal::Replay(error)),
+    };
+    check_rows(span, schedule.cuts(), outcome.ops)?;
+    let expectation = ends.expectation(start.named());
+    write_picture::<JournalFlash, O>(alloc, start, schedule, &expectation, span, out).map_err(
+        Refusal::Trace,
+    )
 }

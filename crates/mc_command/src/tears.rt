@@ -1,8 +1,7 @@
 //! `tears`: what power that is lost within an operation of a boot leads to.
-ghost use Rattle.std.specs.Prelude.{◌≡◌, IfOk};
-ghost use Rattle.std.specs.Io.KnownBytes.{Appends};
-ghost use Rattle.mc_start.specs.Start.{begun};
-ghost use Rattle.mc_tears.specs.Tears.{all_right, tears_text};
+ghost use Rattle.std.specs.Prelude.{◌≡◌, IfOk, OnErr};
+ghost use Rattle.clap.specs.Matches.{found_of};
+ghost use Rattle.mc_command.specs.Tears.{AnswersTears, GivesCase, GivesErasing, GivesTears, HasFile, StartsAfter, refused_as};
 
 use clap::ArgMatches;
 use mc_actions::replay::write_file;
@@ -10,7 +9,7 @@ use mc_actions::schedule::read_schedule;
 use mc_cli::WatchedFiles;
 use mc_explore::{Expectation, ExploreError, Start, flash_at_cut};
 use mc_flash::JournalFlash;
-use mc_options::{NumberOption, Refusal, finish, in_blocks, layout_options};
+use mc_options::{NumberOption, Refusal, layout_options};
 use mc_tears::{Asked as Torn, Erasing, Loss, Reading, TearError, flash_after, write_tears};
 use mc_verdict::Asked;
 use std::alloc::Global;
@@ -18,7 +17,9 @@ use std::io::Write;
 use std::rt::Files;
 
 /// The refusal where tears are not shown.
-fn refused(error: TearError) -> Refusal {
+fn refused(error: TearError) -> Refusal
+    ensures { result ≡ refused_as error }
+{
     match error {
         TearError::Memory => Refusal::Explore(ExploreError::Memory),
         TearError::Write => Refusal::Write,
@@ -30,7 +31,9 @@ fn refused(error: TearError) -> Refusal {
 /// # Errors
 ///
 /// `Argument` where the text names no way.
-fn erasing_option(arguments: &ArgMatches<'_>) -> Result<Erasing, Refusal> {
+fn erasing_option(arguments: &ArgMatches<'_>) -> Result<Erasing, Refusal>
+    ensures { IfOk result (GivesErasing (found_of arguments.now)) }
+{
     match arguments.get_str("erase") {
         None | Some("gentle") => Ok(Erasing::Gentle),
         Some("rough") => Ok(Erasing::Rough),
@@ -40,7 +43,7 @@ fn erasing_option(arguments: &ArgMatches<'_>) -> Result<Erasing, Refusal> {
 
 /// A case, and the file that its flash is written to.
 #[derive(Clone, Copy, Debug)]
-struct CaseFile<'p> {
+pub struct CaseFile<'p> {
     number: u32,
     reading: Reading,
     path: &'p str,
@@ -52,7 +55,9 @@ impl<'p> CaseFile<'p> {
     /// # Errors
     ///
     /// `Number` and `NoReading` of the words; `Argument` where one of the three is missing.
-    fn named(arguments: &ArgMatches<'p>) -> Result<Option<CaseFile<'p>>, Refusal> {
+    fn named(arguments: &ArgMatches<'p>) -> Result<Option<CaseFile<'p>>, Refusal>
+        ensures { IfOk result (GivesCase (found_of arguments.now)) }
+    {
         let number = NumberOption::At.read(arguments)?;
         let reading = match arguments.get_str("reading") {
             Some(text) => Some(Reading::read(text).ok_or(Refusal::NoReading)?),
@@ -70,9 +75,9 @@ impl<'p> CaseFile<'p> {
     }
 }
 
-/// What the words ask: of which start, and what of it.
+/// What `tears` is asked for: of which boot, what of its torn operations, and the case whose flash goes to a file, if any.
 #[derive(Drop)]
-struct Wanted<'p> {
+pub struct TearsAsked<'p> {
     start: Start,
     torn: Torn,
     asked: Asked,
@@ -89,27 +94,31 @@ fn start_after<F: Files>(
     alloc: Global,
     arguments: &ArgMatches<'_>,
     asked: &Asked,
-) -> Result<(Start, Expectation), Refusal> {
+) -> Result<(Start, Expectation), Refusal>
+    ensures { IfOk result (λ given. StartsAfter (found_of arguments.now) asked.now given.0
+        given.1) }
+{
     let given = read_schedule(files, alloc, arguments)?;
     let expectation = asked.expectation(given.start.named())?;
     let flash: JournalFlash = flash_at_cut(alloc, &given.start, &given.schedule)?;
-    let start = given
-        .start
-        .again(alloc, &flash)
-        .map_err(|_| refused(TearError::Memory))?;
+    let Ok(start) = given.start.again(alloc, &flash) else {
+        return Err(refused(TearError::Memory));
+    };
     Ok((start, expectation.unwrap_or(Expectation::any())))
 }
 
-/// What the words ask. They are checked before a file is touched.
+/// What `tears` is asked for. The words are checked before a file is touched.
 ///
 /// # Errors
 ///
 /// `Layout`, `Version`, `NeverSwaps`, `Number` and `NoReading` of the words; `Argument`; those of `start_after`.
-fn read<'p, F: Files>(
+pub fn read<'p, F: Files>(
     files: &F,
     alloc: Global,
     arguments: &ArgMatches<'p>,
-) -> Result<Wanted<'p>, Refusal> {
+) -> Result<TearsAsked<'p>, Refusal>
+    ensures { IfOk result (GivesTears (found_of arguments.now)) }
+{
     let layout = layout_options(arguments)?;
     let asked = Asked::read(arguments)?;
     asked.check(&layout)?;
@@ -121,7 +130,7 @@ fn read<'p, F: Files>(
         all: arguments.get_flag("all"),
         expectation,
     };
-    Ok(Wanted {
+    Ok(TearsAsked {
         start,
         torn,
         asked,
@@ -129,65 +138,52 @@ fn read<'p, F: Files>(
     })
 }
 
-/// Writes the flash of a case.
-///
-/// # Errors
-///
-/// `NoCase`; `Explore` for want of memory; those of `write_file`.
-fn write_case<F: Files>(
-    files: &WatchedFiles<'_, F>,
-    alloc: Global,
-    wanted: &Wanted<'_>,
-    case: &CaseFile<'_>,
-) -> Result<(), Refusal> {
-    let loss = Loss {
-        operation: case.number,
-        within: Some(case.reading),
-    };
-    match flash_after::<JournalFlash>(alloc, &wanted.start, wanted.torn.erasing, &loss) {
-        Ok(Some(flash)) => write_file(files, alloc, case.path, &flash),
-        Ok(None) => Err(Refusal::NoCase),
-        Err(_) => Err(refused(TearError::Memory)),
+impl TearsAsked<'_> {
+    /// Writes the flash of the case that is named, if one is.
+    ///
+    /// # Errors
+    ///
+    /// `NoCase`; `Explore` for want of memory; those of `write_file`.
+    fn write_case<F: Files>(
+        &self,
+        files: &WatchedFiles<'_, F>,
+        alloc: Global,
+    ) -> Result<(), Refusal>
+        ensures { OnErr result (HasFile self.now) }
+    {
+        let Some(case) = &self.file else {
+            return Ok(());
+        };
+        let loss = Loss {
+            operation: case.number,
+            within: Some(case.reading),
+        };
+        match flash_after::<JournalFlash>(alloc, &self.start, self.torn.erasing, &loss) {
+            Ok(Some(flash)) => write_file(files, alloc, case.path, &flash),
+            Ok(None) => Err(Refusal::NoCase),
+            Err(_) => Err(refused(TearError::Memory)),
+        }
     }
 }
 
-/// Prints what torn operations lead to, and gives back the writer that has it, and whether each case is right.
+/// Prints how many operations a boot has, how many cases there are where power is lost within one, and those that end otherwise than a cut
+/// before or after the operation. Where a file is named, the flash of the case that is named is written to it first.
 ///
 /// # Errors
 ///
-/// `Explore` for want of memory; `Write` where the output fails.
-fn print<O: Write + Drop>(
-    alloc: Global,
-    start: &Start,
-    torn: &Torn,
-    out: O,
-) -> Result<(O, bool), Refusal>
-    ensures text { IfOk result (λ done. Appends (O.contents out) (O.contents done.0)
-        (tears_text torn.now (begun start.now))) }
-    ensures right { IfOk result (λ done. done.1 ≡ all_right torn.now (begun start.now)) }
-{
-    let mut blocks = in_blocks(alloc, out)?;
-    let right = write_tears::<JournalFlash, _>(alloc, start, torn, &mut blocks).map_err(refused)?;
-    Ok((finish(blocks)?, right))
-}
-
-/// Prints how many operations the boot after a schedule has, how many cases there are where power is lost within one, and those that end
-/// otherwise than a cut before or after the operation. Where `--out` names a file, the flash of the case that is named is written to it
-/// first. The words are checked before a file is touched.
-///
-/// # Errors
-///
-/// Those of `read`, `write_case` and `print`. Where a verdict is asked also `NotAllRight`; the output is written then.
-pub fn run<F: Files, O: Write>(
+/// Those of `write_case`; `Explore` for want of memory; `Write` where the output fails. Where a verdict is asked also `NotAllRight`; the output
+/// is written then.
+pub fn answer<F: Files, O: Write>(
     files: &WatchedFiles<'_, F>,
     alloc: Global,
-    arguments: &ArgMatches<'_>,
+    asked: &TearsAsked<'_>,
     out: &mut O,
-) -> Result<(), Refusal> {
-    let wanted = read(files, alloc, arguments)?;
-    if let Some(case) = &wanted.file {
-        write_case(files, alloc, &wanted, case)?;
-    }
-    let (_, right) = print(alloc, &wanted.start, &wanted.torn, &mut *out)?;
-    wanted.asked.verdict(true, right, true)
+) -> Result<(), Refusal>
+    ensures { AnswersTears asked.now (O.contents out.old) (O.contents out.new) result }
+{
+    asked.write_case(files, alloc)?;
+    let right = write_tears::<JournalFlash, O>(alloc, &asked.start, &asked.torn, out).map_err(
+        refused,
+    )?;
+    asked.asked.verdict(true, right, true)
 }

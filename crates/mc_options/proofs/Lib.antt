@@ -1,2 +1,3 @@
 pub mod Appended
-mod GivenOptions
+pub mod Begun
+pub mod GivenOptions

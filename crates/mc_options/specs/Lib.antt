@@ -2,3 +2,4 @@ pub mod Numbers
 pub mod Arguments
 pub mod Statuses
 pub mod Sources
+pub mod Requests

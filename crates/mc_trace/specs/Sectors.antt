@@ -130,5 +130,5 @@ PicturesAs v x cuts text (Err e) = RefusesPicture x cuts e
 abbrev pub Pictures : {A : Type 0} → View → PowerOn → List ℕ → Option (List ℕ) → Option (List ℕ) → Result A TraceError → Type 0
 Pictures v x cuts old new (Ok _) = (u : Content) × IsAt v.moment x cuts u × Appends old new (picture v.words x.geometry x.content u)
 Pictures v x cuts old new (Err errors.Write) = (u : Content) × IsAt v.moment x cuts u × AppendsPrefix old new (picture v.words x.geometry x.content u)
-Pictures v x cuts old new (Err (errors.CannotOccur index)) = CannotOccurAt x cuts index × Keeps old new
-Pictures v x cuts old new (Err errors.Memory) = Keeps old new
+Pictures v x cuts old new (Err (errors.CannotOccur index)) = CannotOccurAt x cuts index × (new ≡ old)
+Pictures v x cuts old new (Err errors.Memory) = new ≡ old

@@ -11,11 +11,12 @@ use Rattle.mc_options.specs.declared.refusal.Refusal.{Refusal}
 use Rattle.mc_options.specs.declared.refusal.Refusal.TheVariants as refusals
 use Rattle.mc_explore.specs.declared.error.ExploreError.{ExploreError}
 use Rattle.mc_explore.specs.declared.error.ExploreError.TheVariants as errors
-use Rattle.mc_verdict.specs.{Requests.{End, IsUnwritten}, Sessions.{BeginsAs, Begins, PrintsUntil, TalliesFor, ends_of, or_any}}
+use Rattle.mc_options.specs.Requests.{End, IsUnwritten}
+use Rattle.mc_verdict.specs.Sessions.{BeginsAs, Begins, PrintsUntil, TalliesFor, ends_of, or_any}
 use Rattle.mc_verdict.specs.{Verdicts.{AreCounted, IsExpectation, IsVerdict, is_of_slots, is_whole, lines_of}, declared.verdict.Asked.{Asked}}
 use Rattle.mc_verdict.specs.{PagesAsked.{AnswersPage, AnswersSurvey, EndsPage, IsCutShort, IsPageUnwritten, IsStopped, IsUncounted, PageAsked, PrintBreaks, page_of, rights_of, survey_asked_text}, declared.explore.Exploration.{Exploration}}
 use Rattle.std.proofs.{KnownBytes.{Appends-trans}, lemmas.List.Elements.{All-head, All-tail}}
-use Rattle.mc_verdict.proofs.Answering.{first_begun, then_begun}
+use Rattle.mc_options.proofs.Begun.{first_begun, then_begun}
 
 neither : (p q : Bool) → (p || q) ≡ false → (p ≡ false) × (q ≡ false)
 neither true q e = absurd cc
@@ -41,9 +42,6 @@ parted_once P (x ∷ xs) (y ∷ ys) us vs e p n q m =
 -- All of a text is out: a beginning of it and more.
 pub whole_begun : (before mid : Option (List ℕ)) (a b : List ℕ) → Appends before mid a → AppendsPrefix before mid (a ++ b)
 whole_begun before mid a b p = out_stops before mid (a ++ b) b (out_more before before mid (a ++ b) a b (out_begun before (a ++ b)) p)
-
-pub all_begun : (before mid : Option (List ℕ)) (a : List ℕ) → Appends before mid a → AppendsPrefix before mid a
-all_begun before mid a p = subst (AppendsPrefix before mid) (append-nil a) (whole_begun before mid a [] p)
 
 -- What is kept after a text is that text.
 pub kept : (a b c : Option (List ℕ)) (text : List ℕ) → Appends a b text → Keeps b c → Appends a c text

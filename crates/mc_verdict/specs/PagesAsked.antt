@@ -5,7 +5,8 @@ use Rattle.mc_explore.specs.{declared.expectation.Expectation.{Expectation}, dec
 use Rattle.mc_explore.specs.declared.error.ExploreError.TheVariants as errors
 use Rattle.mc_options.specs.declared.refusal.Refusal.{Refusal}
 use Rattle.mc_options.specs.declared.refusal.Refusal.TheVariants as refusals
-use Rattle.mc_verdict.specs.{Requests.{End, IsAnswered, IsUnwritten}, Sessions.{BeginsAs, Explores, ends_of, or_any}, Verdicts.{IsExpectation, IsVerdict, is_of_slots, is_whole, lines_of}}
+use Rattle.mc_options.specs.Requests.{End, IsAnswered, IsUnwritten}
+use Rattle.mc_verdict.specs.{Sessions.{BeginsAs, Explores, ends_of, or_any}, Verdicts.{IsExpectation, IsVerdict, is_of_slots, is_whole, lines_of}}
 use Rattle.mc_verdict.specs.{declared.explore.Exploration.{Exploration}, declared.verdict.Asked.{Asked}}
 
 -- Rows end early: memory fails, or the explorer has failed.

@@ -1,28 +1,12 @@
--- How a command answers what it is asked for: what is out at the end, and how it ends. And so a census.
-use Rattle.std.specs.{Prelude.{◌≡◌, ℕ, List, Option, Result, Err, ◌++◌, ◌⊎◌, true}, Io.KnownBytes.{Appends}}
+-- How a census is answered.
+use Rattle.std.specs.{Prelude.{◌≡◌, ℕ, List, Option, Err, ◌++◌, ◌⊎◌, true}, Io.KnownBytes.{Appends}}
 use Rattle.mc_explore.specs.{Census.{census_text}, Subject.{Subject}}
 use Rattle.mc_explore.specs.declared.error.ExploreError.TheVariants as errors
-use Rattle.mc_options.specs.declared.refusal.Refusal.{Refusal}
+use Rattle.mc_options.specs.{Requests.{End, IsAnswered, IsUnwritten}, declared.refusal.Refusal.{Refusal}}
 use Rattle.mc_options.specs.declared.refusal.Refusal.TheVariants as refusals
 use Rattle.mc_output.specs.Text.{AppendsPrefix}
 use Rattle.mc_verdict.specs.{Sessions.{AreCounts, ends_of, or_any}, Verdicts.{IsExpectation, IsVerdict, is_of_slots, lines_of}}
 use Rattle.mc_verdict.specs.{declared.census.Counts.{Counts}, declared.census.Wanted.{Wanted}}
-
--- How a command ends.
-abbrev pub End : Type 0
-End = Result (Unit {0}) Refusal
-
--- A request is answered, whose answers have that text and end so: all of an answer's text is out; or it is refused before a byte is
--- out; or it breaks, and a beginning of an answer's text is out.
-abbrev pub IsAnswered : {A : Type 0} → (A → List ℕ) → (A → End → Type 0) → (Refusal → Type 0) → (Refusal → Type 0) → Option (List ℕ) → Option (List ℕ) → End → Type 0
-IsAnswered {A} text Ends Refuses Breaks before after end =
-    ((a : A) × Ends a end × Appends before after (text a))
-    ⊎ (((e : Refusal) × (end ≡ Err e) × Refuses e × (after ≡ before))
-    ⊎ ((e : Refusal) × (end ≡ Err e) × Breaks e × (a : A) × AppendsPrefix before after (text a)))
-
--- A write fails.
-abbrev pub IsUnwritten : Refusal → Type 0
-IsUnwritten e = e ≡ refusals.Write
 
 -- When there is no census: memory fails, or what is to be right is not known.
 abbrev pub RefusesCensus : {C : Type 0} → Wanted C → Refusal → Type 0
@@ -41,6 +25,12 @@ module _ {C K R U : Type 0} (x : Subject C K R U) where
   -- It ends with the verdict on the rows that were counted.
   abbrev pub EndsCensus : (w : Wanted C) → CensusAsked w → End → Type 0
   EndsCensus w c = IsVerdict x.ends w.asked.all_boot (is_of_slots w.asked) (or_any c.are.expectation) c.are.comes_to.rows c.counts.rights true
+
+  -- What was counted is out, and it ends with the verdict on it; or a beginning of it is out.
+  abbrev pub ConcludesCensus : (w : Wanted C) (c : Counts K) → AreCounts x w c → Option (List ℕ) → Option (List ℕ) → End → Type 0
+  ConcludesCensus w c are before after end =
+      (EndsCensus w (record { counts = c; are = are }) end × Appends before after (counts_text c))
+      ⊎ ((e : Refusal) × (end ≡ Err e) × IsUnwritten e × AppendsPrefix before after (counts_text c))
 
   abbrev pub AnswersCensus : Wanted C → Option (List ℕ) → Option (List ℕ) → End → Type 0
   AnswersCensus w = IsAnswered (λ (c : CensusAsked w). counts_text c.counts) (EndsCensus w) (RefusesCensus w) IsUnwritten

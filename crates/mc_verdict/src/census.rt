@@ -2,7 +2,7 @@
 ghost use Rattle.std.specs.Prelude.{◌≡◌, ◌≤◌, List, IfErr, IfOk, OnErr, OnOk, false, true};
 ghost use Rattle.std.specs.Io.KnownBytes.{Appends};
 ghost use Rattle.mc_output.specs.Text.{AppendsPrefix};
-ghost use Rattle.mc_verdict.specs.Requests.{AnswersCensus, RefusesCensus, counts_text};
+ghost use Rattle.mc_verdict.specs.Requests.{AnswersCensus, ConcludesCensus, RefusesCensus, counts_text};
 ghost use Rattle.mc_explore.specs.Census.{census_by};
 ghost use Rattle.mc_explore.specs.declared.expectation.Expectation.{Expectation as Expected};
 ghost use Rattle.clap.specs.Matches.{found_of};
@@ -124,13 +124,6 @@ impl Wanted<()> {
     {
         &self.start
     }
-
-    /// What is asked of each schedule.
-    pub fn asked(&self) -> &Asked
-        ensures { result.now ≡ self.now.asked }
-    {
-        &self.asked
-    }
 }
 
 /// What its rows come to.
@@ -173,8 +166,7 @@ pub fn run<X: Explorable, O: Write>(
     ensures { AnswersCensus X.subject wanted.now (O.contents out.old) (O.contents out.new) result }
 {
     let counts = count::<X>(alloc, wanted)?;
-    write_counts::<X, O>(&counts, out)?;
-    judge::<X>(&counts, &wanted.asked)
+    conclude::<X, O>(&counts, wanted, out)
 }
 
 /// Writes what rows come to, or a beginning of it.
@@ -202,11 +194,14 @@ fn write_counts<X: Subject, O: Write>(
 /// `Write`; those of `judge`.
 pub fn conclude<X: Explorable, O: Write>(
     counts: &Counts<X::Key>,
-    asked: &Asked,
+    wanted: &Wanted<X::Choice>,
     out: &mut O,
-) -> Result<(), Refusal> {
+) -> Result<(), Refusal>
+    ensures { (are : AreCounts X.subject wanted.now counts.now) → ConcludesCensus X.subject
+        wanted.now counts.now are (O.contents out.old) (O.contents out.new) result }
+{
     write_counts::<X, O>(counts, out)?;
-    judge::<X>(counts, asked)
+    judge::<X>(counts, &wanted.asked)
 }
 
 /// The verdict on the rows that were counted.

@@ -101,7 +101,8 @@ impl<C: Copy, U: Copy, K: Copy> Exploration<C, U, K> {
     ///
     /// `Expectation` where each row is to be right, from a flash, and a slot's expectation is not given.
     fn expectation(&self, asked: &Asked) -> Result<Option<Expectation>, Refusal>
-        ensures { IsExpectation asked.now (ends_of self.now.images_return self.now.start.named) result }
+        ensures { IsExpectation asked.now
+            (ends_of self.now.images_return self.now.start.named) result }
     {
         asked.expectation(ends(self.images_return, self.start.named()))
     }

@@ -1,7 +1,8 @@
 use Rattle.std.proofs.lemmas.Result.{err_from_is_err_and}
 use Rattle.std.proofs.KnownBytes.{Appends-trans}
 use Rattle.mc_explore.specs.Subject.{are_lawful}
-use Rattle.mc_verdict.proofs.{Answering.{first_begun, then_begun}, Paging.{survey_broken, survey_judged}}
+use Rattle.mc_options.proofs.Begun.{first_begun, then_begun}
+use Rattle.mc_verdict.proofs.Paging.{survey_broken, survey_judged}
 use Rattle.mc_verdict.proofs.explore.survey.Goals as goal
 
 pub returns-in_err-write_tally : goal.returns-in_err-write_tally

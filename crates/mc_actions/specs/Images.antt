@@ -1,0 +1,55 @@
+-- What is asked of an image, and what answers it.
+use Rattle.std.specs.{Prelude.{Bool, Err, List, None, Ok, Option, Result, Some, codes, false, true, ℕ, ◌≡◌, ◌⊎◌}, Borrow.{Bor}}
+use Rattle.clap.specs.{Words.{first_value}, declared.parser.matches.Found.{Found}}
+use Rattle.mc_actions.specs.declared.creation.Creation.{Creation}
+use Rattle.mc_imgtool.specs.{Created.{created}, declared.error.ToolError.{ToolError}}
+use Rattle.mc_imgtool.specs.Engines as engines
+use Rattle.mc_options.specs.{Arguments.{GivesCreate, IsFlag}, Requests.{End}, declared.refusal.Refusal.{Refusal}}
+use Rattle.mc_options.specs.declared.refusal.Refusal.TheVariants as refusals
+
+-- The words name the file of an image, or standard input.
+abbrev pub GivesInfile : Found → Option (Bor (List ℕ)) → Type 0
+GivesInfile found None = (first_value found (codes "INFILE") ≡ None) ⊎ (first_value found (codes "INFILE") ≡ Some (codes "-"))
+GivesInfile found (Some path) = first_value found (codes "INFILE") ≡ Some path.now
+
+-- They say what `create` is to make, of which file, and where to.
+pub record GivesCreation (found : Found) (c : Creation) : Type 0 where
+  pub options : GivesCreate found c.options
+  pub infile : first_value found (codes "INFILE") ≡ Some c.infile.now
+  pub outfile : first_value found (codes "OUTFILE") ≡ Some c.outfile.now
+  pub keep : IsFlag found (codes "keep") c.keep
+
+-- A command ends as the image tool does.
+abbrev pub tool_end : Result (Unit {0}) ToolError → End
+tool_end (Ok done) = Ok done
+tool_end (Err e) = Err (refusals.Tool e)
+
+-- The text that is wanted for an input is out, or it is refused; of the input all is known, or nothing.
+pub record AnswersInput (wanted : List ℕ → Result (List ℕ) ToolError) (known before after : Option (List ℕ)) (end : End) : Type 0 where
+  pub result : Result (Unit {0}) ToolError
+  pub answers : engines.Answers wanted known before after result
+  pub end_is : end ≡ tool_end result
+
+-- The same of some file, which may not be opened.
+abbrev pub AnswersFile : (List ℕ → Result (List ℕ) ToolError) → Option (List ℕ) → Option (List ℕ) → End → Type 0
+AnswersFile wanted before after end = ((e : Refusal) × (end ≡ Err e) × (after ≡ before)) ⊎ ((known : Option (List ℕ)) × AnswersInput wanted known before after end)
+
+-- Of a file, or of standard input.
+abbrev pub AnswersInfile : (List ℕ → Result (List ℕ) ToolError) → Option (Bor (List ℕ)) → Option (List ℕ) → Option (List ℕ) → Option (List ℕ) → End → Type 0
+AnswersInfile wanted None known before after end = AnswersInput wanted known before after end
+AnswersInfile wanted (Some path) known before after end = AnswersFile wanted before after end
+
+-- Where the names of entries are asked for too, the image is read first.
+abbrev pub AnswersNamed : (List ℕ → Result (List ℕ) ToolError) → Bool → Option (Bor (List ℕ)) → Option (List ℕ) → Option (List ℕ) → Option (List ℕ) → End → Type 0
+AnswersNamed wanted true infile known before after end = AnswersFile wanted before after end
+AnswersNamed wanted false infile known before after end = AnswersInfile wanted infile known before after end
+
+-- A hyphen stands for standard input and output.
+abbrev pub IsStandard : Bor (List ℕ) → Type 0
+IsStandard path = path.now ≡ codes "-"
+
+-- The image goes to standard output, or nothing does.
+pub record AnswersCreate (c : Creation) (known before after : Option (List ℕ)) (end : End) : Type 0 where
+  pub piped : IsStandard c.infile → IsStandard c.outfile → AnswersInput (created c.options) known before after end
+  pub printed : IsStandard c.outfile → AnswersFile (created c.options) before after end
+  pub written : (IsStandard c.outfile → ⊥) → after ≡ before

@@ -1,0 +1,5 @@
+use Rattle.std.proofs.Common.{inl}
+use Rattle.mc_command.proofs.run_request.Goals as goal
+
+pub returns : goal.returns
+returns g c = inl (c.in_ok-request.request, c.in_ok-request.ensures.asks, c.answer.ensures)

@@ -1,0 +1,477 @@
+//! What a command is asked for, and its answer.
+ghost use Rattle.std.specs.Prelude.{IfOk, codes};
+ghost use Rattle.clap.specs.Matches.{found_of};
+ghost use Rattle.mc_command.specs.Commands.{Answers, Asks, IsBounded};
+
+use crate::inspect::{Inspected, LocateAsked};
+use crate::tears::TearsAsked;
+use crate::{inspect, picture, tears};
+use clap::ArgMatches;
+use mc_actions::creation::Creation;
+use mc_actions::infile::infile_named;
+use mc_actions::rounds::{Campaigned, RoundText};
+use mc_actions::schedule::{Outputs, Scheduled};
+use mc_actions::vectors::VectorsAsked;
+use mc_actions::{create, dumpinfo, layout, replay, rounds, trace, trailers, vectors, verify};
+use mc_campaign::{Campaign, CampaignCursor, Campaigns};
+use mc_cli::WatchedFiles;
+use mc_explore::{Cursor, Schedule, Schedules, Start};
+use mc_flash::Layout;
+use mc_options::{Refusal, has_two_rounds, span_options, view_options};
+use mc_trace::{Span, Times, View};
+use mc_verdict::census::Wanted;
+use mc_verdict::explore::Exploration;
+use mc_verdict::{Asked, Ends, census, explore};
+use std::alloc::Global;
+use std::io::{Read, Write};
+use std::rt::Files;
+
+/// What a command is asked for.
+#[derive(Drop)]
+pub enum Request<'p> {
+    /// An image from a payload.
+    Create(Creation<'p>),
+    /// Whether a file, or standard input, is a valid image.
+    Verify(Option<&'p str>),
+    /// What is in an image, of a file or of standard input, and whether its entries are named.
+    Dumpinfo(Option<&'p str>, bool),
+    /// What follows from the numbers of a layout, and from how long its flash takes.
+    Layout(Layout, Option<Times>),
+    /// What the trailers of a flash ask for.
+    Type(Start),
+    /// The outcome of the boot after a schedule, and its flashes in files.
+    Replay(Scheduled, Outputs<'p>),
+    /// The outcomes of both rounds of a campaign, and its flashes in files.
+    CampaignReplay(Campaigned, Outputs<'p>),
+    /// The operations of a schedule's boots.
+    Trace(Scheduled, Span),
+    /// The sectors of a flash of a schedule.
+    Sectors(Scheduled, View),
+    /// The operations, or the sectors, of both rounds of a campaign.
+    CampaignShown(Campaigned, RoundText),
+    /// The page that shows a schedule's boots.
+    Picture(Scheduled, Ends, Span),
+    /// What torn operations of a boot lead to.
+    Tears(TearsAsked<'p>),
+    /// The distinct flashes that cuts or losses leave.
+    Vectors(VectorsAsked<'p>),
+    /// What a dump is.
+    Inspect(Inspected),
+    /// Where a dump occurs in a swap.
+    Locate(LocateAsked),
+    /// A page of schedules, and what is asked of its rows.
+    Explore(Asked, Exploration<(), Cursor, Schedule>),
+    /// A page of campaigns, and what is asked of its rows.
+    Campaigns(Asked, Exploration<bool, CampaignCursor, Campaign>),
+    /// What a page of schedules comes to.
+    Survey(Asked, Exploration<(), Cursor, Schedule>),
+    /// What a page of campaigns comes to.
+    CampaignSurvey(Asked, Exploration<bool, CampaignCursor, Campaign>),
+    /// What all schedules come to.
+    Census(Wanted<()>),
+    /// What all campaigns come to.
+    CampaignCensus(Wanted<bool>),
+}
+
+impl<'p> Request<'p> {
+    /// What the words of the command of that name ask for. They are checked before a file is touched.
+    ///
+    /// # Errors
+    ///
+    /// `Argument` where no such command has that name; what refuses the words or their files.
+    pub fn read<F: Files>(
+        files: &F,
+        alloc: Global,
+        name: &str,
+        arguments: &ArgMatches<'p>,
+    ) -> Result<Request<'p>, Refusal>
+        ensures asks { IfOk result (Asks name.now (found_of arguments.now)) }
+        ensures bounded { IfOk result IsBounded }
+    {
+        match name {
+            "create" => read_create(arguments),
+            "verify" => Ok(Request::Verify(infile_named(arguments))),
+            "dumpinfo" => Ok(read_dumpinfo(arguments)),
+            "layout" => read_layout(arguments),
+            "type" => read_type(files, alloc, arguments),
+            "boot" => read_boot(files, alloc, arguments),
+            "replay" => read_replay(files, alloc, arguments),
+            "trace" => read_trace(files, alloc, arguments),
+            _ => read_many(files, alloc, name, arguments),
+        }
+    }
+
+    /// Writes its text, or a beginning of it, and says how the command ends.
+    ///
+    /// # Errors
+    ///
+    /// Those of its command.
+    pub fn answer<F: Files, R: Read, O: Write, E: Write>(
+        &self,
+        files: &WatchedFiles<'_, F>,
+        alloc: Global,
+        input: &mut R,
+        out: &mut O,
+        err: &mut E,
+    ) -> Result<(), Refusal>
+        requires { IsBounded self.now }
+        ensures { Answers self.now (R.remaining input.old) (O.contents out.old)
+            (O.contents out.new) result }
+    {
+        match self {
+            Request::Create(creation) => create::answer(files, alloc, creation, input, out),
+            Request::Verify(infile) => verify::answer(files, *infile, input, out),
+            Request::Dumpinfo(infile, named) => {
+                dumpinfo::answer(files, alloc, *infile, *named, input, out, err)
+            }
+            Request::Layout(layout, times) => layout::answer(layout, *times, out),
+            Request::Type(start) => trailers::answer(alloc, start, out),
+            Request::Replay(given, outputs) => replay::answer(files, alloc, given, outputs, out),
+            Request::CampaignReplay(given, outputs) => {
+                rounds::answer(files, alloc, given, outputs, out)
+            }
+            Request::Trace(given, span) => trace::answer(alloc, given, *span, out),
+            Request::Sectors(given, view) => trace::answer_sectors(alloc, given, *view, out),
+            Request::CampaignShown(given, text) => rounds::show(alloc, given, *text, out),
+            Request::Picture(given, ends, span) => picture::answer(alloc, given, ends, *span, out),
+            Request::Tears(asked) => tears::answer(files, alloc, asked, out),
+            Request::Vectors(asked) => vectors::answer(files, alloc, asked, out),
+            Request::Inspect(asked) => inspect::answer(alloc, asked, out),
+            Request::Locate(asked) => inspect::locate_in(alloc, asked, out),
+            Request::Explore(asked, page) => explore::run::<Schedules, O>(page, asked, alloc, out),
+            Request::Campaigns(asked, page) => explore::run::<Campaigns, O>(
+                page, asked, alloc, out,
+            ),
+            Request::Survey(asked, page) => explore::survey::<Schedules, O>(
+                page, asked, alloc, out,
+            ),
+            Request::CampaignSurvey(asked, page) => {
+                explore::survey::<Campaigns, O>(page, asked, alloc, out)
+            }
+            Request::Census(wanted) => census::run::<Schedules, O>(wanted, alloc, out),
+            Request::CampaignCensus(wanted) => census::run::<Campaigns, O>(wanted, alloc, out),
+        }
+    }
+}
+
+/// What the words ask for of many schedules, or of a dump.
+///
+/// # Errors
+///
+/// `Argument` where no such command has that name; what refuses the words or their files.
+fn read_many<'p, F: Files>(
+    files: &F,
+    alloc: Global,
+    name: &str,
+    arguments: &ArgMatches<'p>,
+) -> Result<Request<'p>, Refusal>
+    ensures asks { IfOk result (Asks name.now (found_of arguments.now)) }
+    ensures bounded { IfOk result IsBounded }
+{
+    match name {
+        "sectors" => read_sectors(files, alloc, arguments),
+        "picture" => read_picture(files, alloc, arguments),
+        "tears" => read_tears(files, alloc, arguments),
+        "vectors" => read_vectors(files, alloc, arguments),
+        "inspect" => read_inspect(files, alloc, arguments),
+        "locate" => read_locate(files, alloc, arguments),
+        "explore" => read_explore(files, alloc, arguments),
+        "campaign" => read_campaign(files, alloc, arguments),
+        "survey" => read_survey(files, alloc, arguments),
+        "census" => read_census(files, alloc, arguments),
+        _ => Err(Refusal::Argument),
+    }
+}
+
+/// What `create` is asked for.
+///
+/// # Errors
+///
+/// Those of `Creation::read`.
+fn read_create<'p>(arguments: &ArgMatches<'p>) -> Result<Request<'p>, Refusal>
+    ensures asks { IfOk result (Asks (codes "create") (found_of arguments.now)) }
+    ensures bounded { IfOk result IsBounded }
+{
+    let creation = Creation::read(arguments)?;
+    Ok(Request::Create(creation))
+}
+
+/// What `dumpinfo` is asked for.
+fn read_dumpinfo<'p>(arguments: &ArgMatches<'p>) -> Request<'p>
+    ensures asks { Asks (codes "dumpinfo") (found_of arguments.now) result }
+    ensures bounded { IsBounded result }
+{
+    let named = arguments.get_flag("verbose");
+    Request::Dumpinfo(infile_named(arguments), named)
+}
+
+/// What `layout` is asked for.
+///
+/// # Errors
+///
+/// Those of `layout::read`.
+fn read_layout<'p>(arguments: &ArgMatches<'p>) -> Result<Request<'p>, Refusal>
+    ensures asks { IfOk result (Asks (codes "layout") (found_of arguments.now)) }
+    ensures bounded { IfOk result IsBounded }
+{
+    let (layout, times) = layout::read(arguments)?;
+    Ok(Request::Layout(layout, times))
+}
+
+/// What `type` is asked for.
+///
+/// # Errors
+///
+/// Those of `trailers::read`.
+fn read_type<'p, F: Files>(
+    files: &F,
+    alloc: Global,
+    arguments: &ArgMatches<'p>,
+) -> Result<Request<'p>, Refusal>
+    ensures asks { IfOk result (Asks (codes "type") (found_of arguments.now)) }
+    ensures bounded { IfOk result IsBounded }
+{
+    let start = trailers::read(files, alloc, arguments)?;
+    Ok(Request::Type(start))
+}
+
+/// What `boot` is asked for.
+///
+/// # Errors
+///
+/// Those of `replay::read_boot`.
+fn read_boot<'p, F: Files>(
+    files: &F,
+    alloc: Global,
+    arguments: &ArgMatches<'p>,
+) -> Result<Request<'p>, Refusal>
+    ensures asks { IfOk result (Asks (codes "boot") (found_of arguments.now)) }
+    ensures bounded { IfOk result IsBounded }
+{
+    let (given, outputs) = replay::read_boot(files, alloc, arguments)?;
+    Ok(Request::Replay(given, outputs))
+}
+
+/// What `replay` is asked for, of one round or of two.
+///
+/// # Errors
+///
+/// `Argument`; those of `replay::read` and `rounds::read`.
+fn read_replay<'p, F: Files>(
+    files: &F,
+    alloc: Global,
+    arguments: &ArgMatches<'p>,
+) -> Result<Request<'p>, Refusal>
+    ensures asks { IfOk result (Asks (codes "replay") (found_of arguments.now)) }
+    ensures bounded { IfOk result IsBounded }
+{
+    if has_two_rounds(arguments)? {
+        let given = rounds::read(files, alloc, arguments)?;
+        return Ok(Request::CampaignReplay(given, Outputs::named(arguments)));
+    }
+    let (given, outputs) = replay::read(files, alloc, arguments)?;
+    Ok(Request::Replay(given, outputs))
+}
+
+/// What `trace` is asked for, of one round or of two.
+///
+/// # Errors
+///
+/// `Argument`; those of `span_options`, `trace::read` and `rounds::read`.
+fn read_trace<'p, F: Files>(
+    files: &F,
+    alloc: Global,
+    arguments: &ArgMatches<'p>,
+) -> Result<Request<'p>, Refusal>
+    ensures asks { IfOk result (Asks (codes "trace") (found_of arguments.now)) }
+    ensures bounded { IfOk result IsBounded }
+{
+    if has_two_rounds(arguments)? {
+        let text = RoundText::Operations(span_options(arguments)?);
+        return Ok(Request::CampaignShown(rounds::read(files, alloc, arguments)?, text));
+    }
+    let (given, span) = trace::read(files, alloc, arguments)?;
+    Ok(Request::Trace(given, span))
+}
+
+/// What `sectors` is asked for, of one round or of two.
+///
+/// # Errors
+///
+/// `Argument`; those of `view_options`, `trace::read_sectors` and `rounds::read`.
+fn read_sectors<'p, F: Files>(
+    files: &F,
+    alloc: Global,
+    arguments: &ArgMatches<'p>,
+) -> Result<Request<'p>, Refusal>
+    ensures asks { IfOk result (Asks (codes "sectors") (found_of arguments.now)) }
+    ensures bounded { IfOk result IsBounded }
+{
+    if has_two_rounds(arguments)? {
+        let text = RoundText::Sectors(view_options(arguments)?);
+        return Ok(Request::CampaignShown(rounds::read(files, alloc, arguments)?, text));
+    }
+    let (given, view) = trace::read_sectors(files, alloc, arguments)?;
+    Ok(Request::Sectors(given, view))
+}
+
+/// What `picture` is asked for.
+///
+/// # Errors
+///
+/// Those of `picture::read`.
+fn read_picture<'p, F: Files>(
+    files: &F,
+    alloc: Global,
+    arguments: &ArgMatches<'p>,
+) -> Result<Request<'p>, Refusal>
+    ensures asks { IfOk result (Asks (codes "picture") (found_of arguments.now)) }
+    ensures bounded { IfOk result IsBounded }
+{
+    let (given, ends, span) = picture::read(files, alloc, arguments)?;
+    Ok(Request::Picture(given, ends, span))
+}
+
+/// What `tears` is asked for.
+///
+/// # Errors
+///
+/// Those of `tears::read`.
+fn read_tears<'p, F: Files>(
+    files: &F,
+    alloc: Global,
+    arguments: &ArgMatches<'p>,
+) -> Result<Request<'p>, Refusal>
+    ensures asks { IfOk result (Asks (codes "tears") (found_of arguments.now)) }
+    ensures bounded { IfOk result IsBounded }
+{
+    let asked = tears::read(files, alloc, arguments)?;
+    Ok(Request::Tears(asked))
+}
+
+/// What `vectors` is asked for.
+///
+/// # Errors
+///
+/// Those of `vectors::read`.
+fn read_vectors<'p, F: Files>(
+    files: &F,
+    alloc: Global,
+    arguments: &ArgMatches<'p>,
+) -> Result<Request<'p>, Refusal>
+    ensures asks { IfOk result (Asks (codes "vectors") (found_of arguments.now)) }
+    ensures bounded { IfOk result IsBounded }
+{
+    let asked = vectors::read(files, alloc, arguments)?;
+    Ok(Request::Vectors(asked))
+}
+
+/// What `inspect` is asked for.
+///
+/// # Errors
+///
+/// Those of `inspect::read`.
+fn read_inspect<'p, F: Files>(
+    files: &F,
+    alloc: Global,
+    arguments: &ArgMatches<'p>,
+) -> Result<Request<'p>, Refusal>
+    ensures asks { IfOk result (Asks (codes "inspect") (found_of arguments.now)) }
+    ensures bounded { IfOk result IsBounded }
+{
+    let asked = inspect::read(files, alloc, arguments)?;
+    Ok(Request::Inspect(asked))
+}
+
+/// What `locate` is asked for.
+///
+/// # Errors
+///
+/// Those of `inspect::read_locate`.
+fn read_locate<'p, F: Files>(
+    files: &F,
+    alloc: Global,
+    arguments: &ArgMatches<'p>,
+) -> Result<Request<'p>, Refusal>
+    ensures asks { IfOk result (Asks (codes "locate") (found_of arguments.now)) }
+    ensures bounded { IfOk result IsBounded }
+{
+    let asked = inspect::read_locate(files, alloc, arguments)?;
+    Ok(Request::Locate(asked))
+}
+
+/// What `explore` is asked for.
+///
+/// # Errors
+///
+/// Those of `explore::ask`.
+fn read_explore<'p, F: Files>(
+    files: &F,
+    alloc: Global,
+    arguments: &ArgMatches<'p>,
+) -> Result<Request<'p>, Refusal>
+    ensures asks { IfOk result (Asks (codes "explore") (found_of arguments.now)) }
+    ensures bounded { IfOk result IsBounded }
+{
+    let (asked, page) = explore::ask::<Schedules, F>(files, alloc, arguments)?;
+    Ok(Request::Explore(asked, page))
+}
+
+/// What `campaign` is asked for.
+///
+/// # Errors
+///
+/// Those of `explore::ask`.
+fn read_campaign<'p, F: Files>(
+    files: &F,
+    alloc: Global,
+    arguments: &ArgMatches<'p>,
+) -> Result<Request<'p>, Refusal>
+    ensures asks { IfOk result (Asks (codes "campaign") (found_of arguments.now)) }
+    ensures bounded { IfOk result IsBounded }
+{
+    let (asked, page) = explore::ask::<Campaigns, F>(files, alloc, arguments)?;
+    Ok(Request::Campaigns(asked, page))
+}
+
+/// What `survey` is asked for, of schedules or of campaigns.
+///
+/// # Errors
+///
+/// `Argument`; those of `explore::ask`.
+fn read_survey<'p, F: Files>(
+    files: &F,
+    alloc: Global,
+    arguments: &ArgMatches<'p>,
+) -> Result<Request<'p>, Refusal>
+    ensures asks { IfOk result (Asks (codes "survey") (found_of arguments.now)) }
+    ensures bounded { IfOk result IsBounded }
+{
+    if has_two_rounds(arguments)? {
+        let (asked, page) = explore::ask::<Campaigns, F>(files, alloc, arguments)?;
+        return Ok(Request::CampaignSurvey(asked, page));
+    }
+    let (asked, page) = explore::ask::<Schedules, F>(files, alloc, arguments)?;
+    Ok(Request::Survey(asked, page))
+}
+
+/// What `census` is asked for, of schedules or of campaigns.
+///
+/// # Errors
+///
+/// `Argument`; those of `census::read`.
+fn read_census<'p, F: Files>(
+    files: &F,
+    alloc: Global,
+    arguments: &ArgMatches<'p>,
+) -> Result<Request<'p>, Refusal>
+    ensures asks { IfOk result (Asks (codes "census") (found_of arguments.now)) }
+    ensures bounded { IfOk result IsBounded }
+{
+    if has_two_rounds(arguments)? {
+        let wanted = census::read::<Campaigns, F>(files, alloc, arguments)?;
+        return Ok(Request::CampaignCensus(wanted));
+    }
+    let wanted = census::read::<Schedules, F>(files, alloc, arguments)?;
+    Ok(Request::Census(wanted))
+}
