@@ -3,7 +3,6 @@ use Rattle.std.specs.Prelude.{Bool, List, Option, codes, false, true, ℕ, ◌++
 use Rattle.mc_boot.specs.Plan.{PowerOn}
 use Rattle.mc_flash.specs.{Geometry.{Geometry}, declared.flash.FlashError.{FlashError}, declared.op.Slot.TheVariants.{Primary, Secondary}}
 use Rattle.mc_options.specs.Requests.{End, IsAnswered, IsDone, IsUnwritten}
-use Rattle.mc_options.specs.declared.refusal.Refusal.{Refusal}
 use Rattle.mc_options.specs.declared.refusal.Refusal.TheVariants as refusals
 use Rattle.mc_start.specs.Start.{Started, begun}
 use Rattle.mc_trace.specs.{LayoutText.{layout_text}, declared.wear.Times.{Times}}

@@ -1,6 +1,6 @@
--- What is written in parts, and errors that are passed on.
-use Rattle.std.specs.{Prelude.{ℕ, List, [], ◌++◌, Option, Result, Ok, Err, MatchResult, OnErr}, Io.KnownBytes.{Appends}, Result.{IsErrAnd}}
-use Rattle.std.proofs.{Common.{◌≡◌, append-nil, refl, subst, sym, ◌∙◌}, lemmas.Result.{err_from_is_err_and}}
+-- What is written in parts.
+use Rattle.std.specs.{Prelude.{ℕ, List, [], ◌++◌, Option, Result, Ok, Err, OnErr}, Io.KnownBytes.{Appends}}
+use Rattle.std.proofs.Common.{append-nil}
 use Rattle.mc_output.specs.{Text.{AppendsPrefix}, facts.Prefixes.{out_begun, out_more, out_prefix}}
 
 -- What holds whatever happened.
@@ -17,11 +17,3 @@ pub then_begun : (before mid new : Option (List ℕ)) (a b : List ℕ) → Appen
 then_begun before mid new a b p q =
     let o = out_more before before mid (a ++ b) a b (out_begun before (a ++ b)) p in
     out_prefix before mid new (a ++ b) b [] (rw (append-nil b) o) q
-
--- An error is made of the one that there was.
-pub mapped : {T E D : Type 0} (Q : E → D → Type 0) (r : Result T E) (m : Result T D) → MatchResult r (λ x. m ≡ Ok x) (λ e. IsErrAnd m (Q e)) → (d : D) → m ≡ Err d → (e : E) × (r ≡ Err e) × Q e d
-mapped Q (Ok x) m is d at = absurd (let both = sym is ∙ at in cc)
-mapped Q (Err e) m is d at =
-    let made = err_from_is_err_and m is in
-    let same : made.0 ≡ d = let both = sym made.1 ∙ at in cc in
-    (e, refl, subst (Q e) same made.2)

@@ -1,5 +1,5 @@
 -- A flash as bytes: the primary slot, and then the secondary.
-use Rattle.std.specs.{Io.KnownBytes.{Appends, Keeps}, List.{between}}
+use Rattle.std.specs.{Io.KnownBytes.{Appends}, List.{between}}
 use Rattle.std.specs.Prelude.{Bool, Err, List, None, Ok, Option, Result, Some, [], bytes_eq, codes, decimal, if◌then◌else◌, length, nat_le, suc}
 use Rattle.std.specs.Prelude.{take, zero, ℕ, ⊤, ◌&&◌, ◌*◌, ◌++◌, ◌+◌, ◌-◌, ◌==◌, ◌∷◌, ◌≡◌}
 use Rattle.mc_boot.specs.{Outcome.{after, left_by}, Plan.{PowerOn, again}}
