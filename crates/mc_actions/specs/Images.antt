@@ -4,7 +4,7 @@ use Rattle.clap.specs.{Words.{first_value}, declared.parser.matches.Found.{Found
 use Rattle.mc_actions.specs.declared.creation.Creation.{Creation}
 use Rattle.mc_imgtool.specs.{Created.{created}, declared.error.ToolError.{ToolError}}
 use Rattle.mc_imgtool.specs.Engines as engines
-use Rattle.mc_options.specs.{Arguments.{GivesCreate, IsFlag}, Requests.{End}, declared.refusal.Refusal.{Refusal}}
+use Rattle.mc_options.specs.{Arguments.{GivesCreate, IsFlag}, Refusals.{IsOfFile, LacksCreate, LacksOption}, Requests.{End}, declared.refusal.Refusal.{Refusal}}
 use Rattle.mc_options.specs.declared.refusal.Refusal.TheVariants as refusals
 
 -- The words name the file of an image, or standard input.
@@ -19,6 +19,9 @@ pub record GivesCreation (found : Found) (c : Creation) : Type 0 where
   pub outfile : first_value found (codes "OUTFILE") ≡ Some c.outfile.now
   pub keep : IsFlag found (codes "keep") c.keep
 
+abbrev pub LacksCreation : Found → Refusal → Type 0
+LacksCreation found e = LacksCreate found e ⊎ (LacksOption found (codes "INFILE") e ⊎ LacksOption found (codes "OUTFILE") e)
+
 -- A command ends as the image tool does.
 abbrev pub tool_end : Result (Unit {0}) ToolError → End
 tool_end (Ok done) = Ok done
@@ -30,9 +33,14 @@ pub record AnswersInput (wanted : List ℕ → Result (List ℕ) ToolError) (kno
   pub answers : engines.Answers wanted known before after result
   pub end_is : end ≡ tool_end result
 
--- The same of some file, which may not be opened.
+-- A file is not read: it is the one that is to be written, or it cannot be.
+abbrev pub IsUnread : Refusal → Type 0
+IsUnread e = (e ≡ refusals.SameFile) ⊎ IsOfFile e
+
+-- The same of some file, which may not be read.
 abbrev pub AnswersFile : (List ℕ → Result (List ℕ) ToolError) → Option (List ℕ) → Option (List ℕ) → End → Type 0
-AnswersFile wanted before after end = ((e : Refusal) × (end ≡ Err e) × (after ≡ before)) ⊎ ((known : Option (List ℕ)) × AnswersInput wanted known before after end)
+AnswersFile wanted before after end =
+    ((e : Refusal) × (end ≡ Err e) × IsUnread e × (after ≡ before)) ⊎ ((known : Option (List ℕ)) × AnswersInput wanted known before after end)
 
 -- Of a file, or of standard input.
 abbrev pub AnswersInfile : (List ℕ → Result (List ℕ) ToolError) → Option (Bor (List ℕ)) → Option (List ℕ) → Option (List ℕ) → Option (List ℕ) → End → Type 0

@@ -7,7 +7,7 @@ use Rattle.mc_boot.specs.{Outcome.{Report, outcome_text}, Plan.{PowerOn}}
 use Rattle.mc_campaign.specs.{Campaigns.{AreReplayed, BeginsSecond, RefusesCampaign, in_round}, Rows.{Restarts}, Texts.{campaign_text}}
 use Rattle.mc_explore.specs.declared.replays.ReplayError.{ReplayError}
 use Rattle.mc_flash.specs.Flash.{Content}
-use Rattle.mc_options.specs.{Arguments.{IsFlag}, Requests.{End, IsAnswered, IsDone, IsUnwritten}, Sources.{GivesStart}}
+use Rattle.mc_options.specs.{Arguments.{IsFlag}, Refusals.{FailsCampaign, HasText, IsLost, IsOfStart, LacksFlash, LacksOption}, Requests.{End, IsAnswered, IsDone, IsUnwritten}, Sources.{GivesStart}}
 use Rattle.mc_options.specs.declared.refusal.Refusal.{Refusal}
 use Rattle.mc_options.specs.declared.refusal.Refusal.TheVariants as refusals
 use Rattle.mc_start.specs.Start.{begun}
@@ -18,6 +18,11 @@ pub record GivesCampaign (found : Found) (c : Campaigned) : Type 0 where
   pub start : GivesStart found c.start
   pub campaign : first_value found (codes "schedule") ≡ Some (campaign_text c.campaign)
   pub confirms : IsFlag found (codes "confirm") c.confirms
+
+abbrev pub LacksCampaign : Found → Refusal → Type 0
+LacksCampaign found e =
+    LacksFlash found e
+    ⊎ ((LacksOption found (codes "schedule") e ⊎ HasText found (codes "schedule") (λ text. FailsCampaign text e)) ⊎ (IsLost found e ⊎ IsOfStart e))
 
 -- Each round under a line of its own.
 abbrev pub rounds_text : List ℕ → List ℕ → List ℕ

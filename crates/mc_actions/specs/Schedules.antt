@@ -5,7 +5,7 @@ use Rattle.mc_actions.specs.{declared.schedule.Outputs.{Outputs}, declared.sched
 use Rattle.mc_boot.specs.Outcome.{Report, outcome_text}
 use Rattle.mc_explore.specs.{Schedules.{CannotOccurAt, IsReplayed, RefusesReplay, Restarts}, declared.replays.ReplayError.{ReplayError}}
 use Rattle.mc_flash.specs.Flash.{Content}
-use Rattle.mc_options.specs.{Arguments.{MayGiveSchedule}, Requests.{End, IsAnswered, IsDone, IsUnwritten}, Sources.{GivesStart}}
+use Rattle.mc_options.specs.{Arguments.{MayGiveSchedule}, Refusals.{FailsSchedule, HasText, IsLost, IsOfStart, LacksFlash, LacksOption, LacksSpan, LacksView}, Requests.{End, IsAnswered, IsDone, IsUnwritten}, Sources.{GivesStart}}
 use Rattle.mc_options.specs.declared.refusal.Refusal.{Refusal}
 use Rattle.mc_options.specs.declared.refusal.Refusal.TheVariants as refusals
 use Rattle.mc_start.specs.Start.{begun, schedule_text}
@@ -21,6 +21,20 @@ pub record GivesScheduled (found : Found) (s : Scheduled) : Type 0 where
 pub record GivesBoot (found : Found) (s : Scheduled) : Type 0 where
   pub start : GivesStart found s.start
   pub schedule : codes "-" ≡ schedule_text s.schedule
+
+-- They give none, or no start, or one of their files is not to be lost; the text of a schedule is the one that is read.
+abbrev pub LacksFrom : List ℕ → Found → Refusal → Type 0
+LacksFrom text found e = LacksFlash found e ⊎ (FailsSchedule text e ⊎ (IsLost found e ⊎ IsOfStart e))
+
+abbrev pub LacksScheduled : Found → Refusal → Type 0
+LacksScheduled found e = LacksOption found (codes "schedule") e ⊎ HasText found (codes "schedule") (λ text. LacksFrom text found e)
+
+-- Besides, which operations are shown, or which view of the sectors.
+abbrev pub LacksTraced : Found → Refusal → Type 0
+LacksTraced found e = LacksSpan found e ⊎ LacksScheduled found e
+
+abbrev pub LacksViewed : Found → Refusal → Type 0
+LacksViewed found e = LacksView found e ⊎ LacksScheduled found e
 
 -- They name the files that flashes go to.
 pub record GivesOutputs (found : Found) (o : Outputs) : Type 0 where

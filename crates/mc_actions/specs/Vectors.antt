@@ -4,7 +4,7 @@ use Rattle.clap.specs.{Words.{first_value}, declared.parser.matches.Found.{Found
 use Rattle.mc_actions.specs.{Layouts.{yes_or_no}, declared.vectors.Cuts.{Cuts}, declared.vectors.NewFolder.{NewFolder}, declared.vectors.Table.{Table}, declared.vectors.VectorsAsked.{VectorsAsked}}
 use Rattle.mc_actions.specs.declared.vectors.Table.TheVariants as tables
 use Rattle.mc_explore.specs.declared.error.ExploreError.TheVariants as errors
-use Rattle.mc_options.specs.{Arguments.{IsFlag}, Numbers.{GivesNumber}, Requests.{End, IsAnswered, IsDone, IsUnwritten}, Sources.{GivesStart}}
+use Rattle.mc_options.specs.{Arguments.{IsFlag}, Numbers.{GivesNumber}, Refusals.{HasText, IsOfStart, LacksFlash, LacksRequired}, Requests.{End, IsAnswered, IsDone, IsUnwritten}, Sources.{GivesStart}}
 use Rattle.mc_options.specs.declared.refusal.Refusal.{Refusal}
 use Rattle.mc_options.specs.declared.refusal.Refusal.TheVariants as refusals
 use Rattle.mc_start.specs.Start.{begun}
@@ -30,6 +30,9 @@ abbrev pub GivesCuts : Found → Cuts → Type 0
 GivesCuts found (cuts.AtMost n) = GivesNumber found numbers.Cuts n
 GivesCuts found cuts.Any = first_value found (codes "cuts") ≡ Some (codes "all")
 
+abbrev pub LacksCuts : Found → Refusal → Type 0
+LacksCuts found e = LacksRequired found numbers.Cuts e
+
 -- They ask for losses within operations, where an erase fails so; or for cuts alone.
 abbrev pub GivesTorn : Found → Option Erasing → Type 0
 GivesTorn found None = IsFlag found (codes "torn") false × (first_value found (codes "erase") ≡ None)
@@ -40,6 +43,21 @@ GivesTorn found (Some erasings.Rough) = IsFlag found (codes "torn") true × (fir
 abbrev pub GivesFolder : Found → Option NewFolder → Type 0
 GivesFolder found None = first_value found (codes "dir") ≡ None
 GivesFolder found (Some folder) = (first_value found (codes "dir") ≡ Some folder.path.now) × IsFlag found (codes "patches") folder.patches
+
+-- A text names no way in which an erase fails; or ways are named, but no losses within operations asked for; or patches, but no folder.
+abbrev pub IsNoErasing : List ℕ → Type 0
+IsNoErasing text = (text ≡ codes "gentle" → ⊥) × (text ≡ codes "rough" → ⊥)
+
+abbrev pub LacksTorn : Found → Refusal → Type 0
+LacksTorn found e =
+    (e ≡ refusals.Argument)
+    × ((IsFlag found (codes "torn") false × (is_some (first_value found (codes "erase")) ≡ true)) ⊎ HasText found (codes "erase") IsNoErasing)
+
+abbrev pub LacksFolder : Found → Refusal → Type 0
+LacksFolder found e = (e ≡ refusals.Argument) × IsFlag found (codes "patches") true × (first_value found (codes "dir") ≡ None)
+
+abbrev pub LacksVectors : Found → Refusal → Type 0
+LacksVectors found e = (LacksFlash found e ⊎ LacksCuts found e) ⊎ ((LacksTorn found e ⊎ LacksFolder found e) ⊎ IsOfStart e)
 
 pub record GivesVectors (found : Found) (a : VectorsAsked) : Type 0 where
   pub start : GivesStart found a.start

@@ -5,10 +5,10 @@ ghost use Rattle.mc_imgtool.specs.Created.{created};
 ghost use Rattle.mc_options.specs.Arguments.{IsReady};
 
 use crate::creation::Creation;
+use crate::infile::open_infile;
 use mc_cli::WatchedFiles;
 use mc_options::{Outfile, Refusal, is_same_file};
 use std::alloc::Global;
-use std::fs;
 use std::io::{Read, Write};
 use std::rt::Files;
 
@@ -40,7 +40,7 @@ pub fn answer<F: Files, R: Read, O: Write>(
     if is_same_file(files, infile, creation.outfile()) {
         return Err(Refusal::SameFile);
     }
-    let mut file = fs::open(files, infile).map_err(|_| Refusal::Open)?;
+    let mut file = open_infile(files, infile)?;
     make_from(files, alloc, creation, &mut file, out)
 }
 

@@ -1,9 +1,9 @@
 //! What `create` is given, and the image that is made of it.
-ghost use Rattle.std.specs.Prelude.{◌≡◌, IfOk};
+ghost use Rattle.std.specs.Prelude.{◌≡◌, IfErr, IfOk};
 ghost use Rattle.clap.specs.Matches.{found_of};
 ghost use Rattle.mc_imgtool.specs.Created.{created};
 ghost use Rattle.mc_imgtool.specs.Engines.{Answers};
-ghost use Rattle.mc_actions.specs.Images.{GivesCreation};
+ghost use Rattle.mc_actions.specs.Images.{GivesCreation, LacksCreation};
 ghost use Rattle.mc_options.specs.Arguments.{IsReady};
 
 use clap::ArgMatches;
@@ -31,6 +31,7 @@ impl<'a> Creation<'a> {
     pub fn read(arguments: &ArgMatches<'a>) -> Result<Creation<'a>, Refusal>
         ensures given { IfOk result (GivesCreation (found_of arguments.now)) }
         ensures ready { IfOk result (λ c. IsReady c.options) }
+        ensures refused { IfErr result (LacksCreation (found_of arguments.now)) }
     {
         Ok(Creation {
             options: create_options(arguments)?,

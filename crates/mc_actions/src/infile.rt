@@ -1,4 +1,5 @@
 //! INFILE, where it may be left out.
+ghost use Rattle.std.specs.Prelude.{◌≡◌, IfErr};
 ghost use Rattle.clap.specs.Matches.{found_of};
 ghost use Rattle.mc_actions.specs.Images.{GivesInfile};
 
@@ -22,6 +23,11 @@ pub fn infile_named<'p>(arguments: &ArgMatches<'p>) -> Option<&'p str>
 /// # Errors
 ///
 /// `Open` where it cannot be opened.
-pub fn open_infile<F: Files>(files: &F, path: &str) -> Result<F::File, Refusal> {
-    fs::open(files, path).map_err(|_| Refusal::Open)
+pub fn open_infile<F: Files>(files: &F, path: &str) -> Result<F::File, Refusal>
+    ensures { IfErr result (λ e. e ≡ Refusal.Open) }
+{
+    match fs::open(files, path) {
+        Ok(file) => Ok(file),
+        Err(_) => Err(Refusal::Open),
+    }
 }

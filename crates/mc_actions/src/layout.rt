@@ -1,7 +1,7 @@
 //! `layout`: what follows from the numbers of a layout.
-ghost use Rattle.std.specs.Prelude.{IfOk, Option};
+ghost use Rattle.std.specs.Prelude.{IfErr, IfOk, Option};
 ghost use Rattle.clap.specs.Matches.{found_of};
-ghost use Rattle.mc_actions.specs.Layouts.{AnswersLayout};
+ghost use Rattle.mc_actions.specs.Layouts.{AnswersLayout, LacksTimedLayout};
 ghost use Rattle.mc_flash.specs.Geometry.{Geometry, refusal_of};
 ghost use Rattle.mc_options.specs.Arguments.{GivesLayout, Judges, MayGiveTimes};
 ghost use Rattle.mc_trace.specs.declared.wear.Times.{Times as GivenTimes};
@@ -23,6 +23,7 @@ pub fn read(arguments: &ArgMatches<'_>) -> Result<(Layout, Option<Times>), Refus
     ensures judged { (g : Geometry) (times : Option GivenTimes)
         → GivesLayout (found_of arguments.now) g → MayGiveTimes (found_of arguments.now) times
         → Judges (refusal_of g) result }
+    ensures refused { IfErr result (LacksTimedLayout (found_of arguments.now)) }
 {
     let layout = layout_options(arguments)?;
     let times = times_options(arguments)?;

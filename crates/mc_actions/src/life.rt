@@ -1,7 +1,7 @@
 //! `life`: what happens to a device, replayed event by event.
-ghost use Rattle.std.specs.Prelude.{◌≡◌, ◌≤◌, IfOk, MatchResult, OnErr, OnOk, length};
+ghost use Rattle.std.specs.Prelude.{◌≡◌, ◌≤◌, ◌⊎◌, IfErr, IfOk, MatchResult, OnErr, OnOk, length};
 ghost use Rattle.clap.specs.Matches.{found_of};
-ghost use Rattle.mc_actions.specs.Lives.{AnswersLife, GivesLife, IsWearOut, StopsLife};
+ghost use Rattle.mc_actions.specs.Lives.{AnswersLife, GivesLife, IsOfDevice, IsOfScript, IsWearOut, LacksDevice, LacksLife, LacksShelf, StopsLife};
 ghost use Rattle.mc_life.specs.Device.{OfWear};
 ghost use Rattle.mc_life.specs.Replay.{IsReplayed};
 ghost use Rattle.mc_options.specs.Arguments.{GivesLayout, GivesRules};
@@ -32,16 +32,15 @@ use std::{fs, io};
 ///
 /// `Start` where the image is refused, or does not fit, or an allocation failed.
 fn delivered(alloc: Global, layout: &Layout, image: &[u8]) -> Result<Start, Refusal>
-    ensures { IfOk result (λ start. start.geometry ≡ layout.now) }
+    ensures layout { IfOk result (λ start. start.geometry ≡ layout.now) }
+    ensures refused { IfErr result IsOfDevice }
 {
     let images = Start::from_images(alloc, layout, Kind::None, image, image)?;
     let primary = images.primary();
     let size = primary.len() + layout.size(Slot::Secondary) as usize;
-    let mut bytes = Vec::with_capacity(alloc, size).map_err(|_| Refusal::Memory)?;
-    bytes
-        .extend_from_slice(primary)
-        .map_err(|_| Refusal::Memory)?;
-    bytes.resize(size, 0xff).map_err(|_| Refusal::Memory)?;
+    let mut bytes = Vec::with_capacity(alloc, size)?;
+    bytes.extend_from_slice(primary)?;
+    bytes.resize(size, 0xff)?;
     Ok(Start::from_flash(alloc, layout, &bytes)?)
 }
 
@@ -56,7 +55,8 @@ fn start_of<F: Files>(
     arguments: &ArgMatches<'_>,
     layout: &Layout,
 ) -> Result<Start, Refusal>
-    ensures { IfOk result (λ start. start.geometry ≡ layout.now) }
+    ensures layout { IfOk result (λ start. start.geometry ≡ layout.now) }
+    ensures refused { IfErr result (λ e. LacksDevice (found_of arguments.now) e ⊎ IsOfDevice e) }
 {
     match (arguments.get_str("flash"), arguments.get_str("image")) {
         (Some(path), None) => {
@@ -83,6 +83,7 @@ fn read_device<F: Files>(
 ) -> Result<Start, Refusal>
     ensures layout { IfOk result (λ start. GivesLayout (found_of arguments.now) start.geometry) }
     ensures rules { IfOk result (λ start. GivesRules (found_of arguments.now) start.rules) }
+    ensures refused { IfErr result (LacksLife (found_of arguments.now)) }
 {
     let layout = layout_options(arguments)?;
     let rules = rules_options(arguments)?;
@@ -101,7 +102,9 @@ fn add_file<F: Files>(
     alloc: Global,
     name: &str,
     shelf: &mut Vec<File>,
-) -> Result<(), Refusal> {
+) -> Result<(), Refusal>
+    ensures { IfErr result IsOfDevice }
+{
     if find(shelf, name).is_some() {
         return Ok(());
     }
@@ -114,8 +117,11 @@ fn add_file<F: Files>(
     if bytes.len() > GREATEST_IMAGE as usize {
         return Err(Refusal::Tool(ToolError::InputTooLong));
     }
-    let file = File::new(alloc, name, bytes).map_err(|_| Refusal::Memory)?;
-    shelf.push(file).map_err(|_| Refusal::Memory)
+    let file = File::new(alloc, name, bytes)?;
+    match shelf.push(file) {
+        Ok(()) => Ok(()),
+        Err(_) => Err(Refusal::Memory),
+    }
 }
 
 /// The files that a script names, each once. None of them is the file that is to be written.
@@ -128,8 +134,10 @@ fn read_shelf<F: Files>(
     alloc: Global,
     script: &Script,
     outfile: Option<&str>,
-) -> Result<Vec<File>, Refusal> {
-    let names = script.names(alloc).map_err(|_| Refusal::Memory)?;
+) -> Result<Vec<File>, Refusal>
+    ensures { IfErr result (LacksShelf outfile.entry) }
+{
+    let names = script.names(alloc)?;
     let mut shelf = Vec::new(alloc);
     for name in &names {
         if let Some(outfile) = outfile
@@ -152,7 +160,9 @@ fn read_script<F: Files, R: Read>(
     alloc: Global,
     arguments: &ArgMatches<'_>,
     input: &mut R,
-) -> Result<Script, Refusal> {
+) -> Result<Script, Refusal>
+    ensures { IfErr result IsOfScript }
+{
     let path = arguments.get_str("SCRIPT").unwrap_or("-");
     if path == "-" {
         return Ok(Script::read(alloc, input)?);
@@ -186,7 +196,8 @@ pub fn read<'p, F: Files, R: Read>(
     arguments: &ArgMatches<'p>,
     input: &mut R,
 ) -> Result<Life<'p>, Refusal>
-    ensures { IfOk result (GivesLife (found_of arguments.now)) }
+    ensures given { IfOk result (GivesLife (found_of arguments.now)) }
+    ensures refused { IfErr result (LacksLife (found_of arguments.now)) }
 {
     let start = read_device(files, alloc, arguments)?;
     let script = read_script(files, alloc, arguments, input)?;

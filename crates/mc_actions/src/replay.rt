@@ -1,7 +1,7 @@
 //! `boot` and `replay`: what the boot after a schedule of power cuts does.
-ghost use Rattle.std.specs.Prelude.{IfErr, IfOk, OnErr};
+ghost use Rattle.std.specs.Prelude.{IfErr, IfOk, OnErr, codes};
 ghost use Rattle.clap.specs.Matches.{found_of};
-ghost use Rattle.mc_actions.specs.Schedules.{AnswersReplay, GivesBoot, GivesOutputs, GivesScheduled, HasOutput, RefusesReplayed};
+ghost use Rattle.mc_actions.specs.Schedules.{AnswersReplay, GivesBoot, GivesOutputs, GivesScheduled, HasOutput, LacksFrom, LacksScheduled, RefusesReplayed};
 
 use crate::schedule::{Outputs, Scheduled, read_schedule, schedule_from};
 use clap::ArgMatches;
@@ -28,6 +28,7 @@ pub fn read_boot<'p, F: Files>(
 ) -> Result<(Scheduled, Outputs<'p>), Refusal>
     ensures boot { IfOk result (λ asked. GivesBoot (found_of arguments.now) asked.0) }
     ensures outputs { IfOk result (λ asked. GivesOutputs (found_of arguments.now) asked.1) }
+    ensures refused { IfErr result (LacksFrom (codes "-") (found_of arguments.now)) }
 {
     let given = schedule_from(files, alloc, arguments, "-")?;
     Ok((given, Outputs::named(arguments)))
@@ -45,6 +46,7 @@ pub fn read<'p, F: Files>(
 ) -> Result<(Scheduled, Outputs<'p>), Refusal>
     ensures schedule { IfOk result (λ asked. GivesScheduled (found_of arguments.now) asked.0) }
     ensures outputs { IfOk result (λ asked. GivesOutputs (found_of arguments.now) asked.1) }
+    ensures refused { IfErr result (LacksScheduled (found_of arguments.now)) }
 {
     let given = read_schedule(files, alloc, arguments)?;
     Ok((given, Outputs::named(arguments)))

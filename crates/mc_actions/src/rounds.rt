@@ -1,8 +1,8 @@
 //! `replay`, `trace` and `sectors` of a campaign of two rounds of boots.
-ghost use Rattle.std.specs.Prelude.{◌≡◌, IfErr, IfOk, List, ℕ, MatchResult, OnErr, OnOk};
+ghost use Rattle.std.specs.Prelude.{IfErr, IfOk, List, ℕ, MatchResult, OnErr, OnOk};
 ghost use Rattle.std.specs.Io.KnownBytes.{Appends};
 ghost use Rattle.clap.specs.Matches.{found_of};
-ghost use Rattle.mc_actions.specs.Rounds.{AnswersRounds, AnswersShown, BeginsBoth, GivesCampaign, IsRoundText, RefusesRounds};
+ghost use Rattle.mc_actions.specs.Rounds.{AnswersRounds, AnswersShown, BeginsBoth, GivesCampaign, IsRoundText, LacksCampaign, RefusesRounds};
 ghost use Rattle.mc_actions.specs.Schedules.{HasOutput};
 ghost use Rattle.mc_boot.specs.Outcome.{Report};
 ghost use Rattle.mc_campaign.specs.Campaigns.{BeginsSecond, in_round};
@@ -52,7 +52,8 @@ pub fn read<F: Files>(
     alloc: Global,
     arguments: &ArgMatches<'_>,
 ) -> Result<Campaigned, Refusal>
-    ensures { IfOk result (GivesCampaign (found_of arguments.now)) }
+    ensures given { IfOk result (GivesCampaign (found_of arguments.now)) }
+    ensures refused { IfErr result (LacksCampaign (found_of arguments.now)) }
 {
     let options = match flash_options(arguments) {
         Ok(options) => options,

@@ -1,7 +1,7 @@
 //! A schedule of power cuts and the start that it begins at, as options give them.
-ghost use Rattle.std.specs.Prelude.{◌≡◌, IfOk};
+ghost use Rattle.std.specs.Prelude.{◌≡◌, IfErr, IfOk};
 ghost use Rattle.clap.specs.Matches.{found_of};
-ghost use Rattle.mc_actions.specs.Schedules.{GivesOutputs, GivesScheduled};
+ghost use Rattle.mc_actions.specs.Schedules.{GivesOutputs, GivesScheduled, LacksFrom, LacksScheduled};
 ghost use Rattle.mc_start.specs.Start.{schedule_text};
 ghost use Rattle.mc_options.specs.Sources.{GivesStart};
 
@@ -28,7 +28,8 @@ pub fn read_schedule<F: Files>(
     alloc: Global,
     arguments: &ArgMatches<'_>,
 ) -> Result<Scheduled, Refusal>
-    ensures { IfOk result (GivesScheduled (found_of arguments.now)) }
+    ensures given { IfOk result (GivesScheduled (found_of arguments.now)) }
+    ensures refused { IfErr result (LacksScheduled (found_of arguments.now)) }
 {
     schedule_from(files, alloc, arguments, required(arguments, "schedule")?)
 }
@@ -46,6 +47,7 @@ pub fn schedule_from<F: Files>(
 ) -> Result<Scheduled, Refusal>
     ensures start { IfOk result (λ t. GivesStart (found_of arguments.now) t.start) }
     ensures schedule { IfOk result (λ t. schedule.now ≡ schedule_text t.schedule) }
+    ensures refused { IfErr result (LacksFrom schedule.now (found_of arguments.now)) }
 {
     let options = match flash_options(arguments) {
         Ok(options) => options,

@@ -1,7 +1,7 @@
 //! `trace` and `sectors`: what happens of a schedule of power cuts, and what lies where at its last cut.
-ghost use Rattle.std.specs.Prelude.{IfOk};
+ghost use Rattle.std.specs.Prelude.{IfErr, IfOk};
 ghost use Rattle.clap.specs.Matches.{found_of};
-ghost use Rattle.mc_actions.specs.Schedules.{AnswersSectors, AnswersTrace, GivesScheduled};
+ghost use Rattle.mc_actions.specs.Schedules.{AnswersSectors, AnswersTrace, GivesScheduled, LacksTraced, LacksViewed};
 ghost use Rattle.mc_options.specs.Arguments.{GivesSpan, GivesView};
 
 use crate::schedule::{Scheduled, read_schedule};
@@ -25,6 +25,7 @@ pub fn read<F: Files>(
 ) -> Result<(Scheduled, Span), Refusal>
     ensures schedule { IfOk result (λ asked. GivesScheduled (found_of arguments.now) asked.0) }
     ensures span { IfOk result (λ asked. GivesSpan (found_of arguments.now) asked.1) }
+    ensures refused { IfErr result (LacksTraced (found_of arguments.now)) }
 {
     let span = span_options(arguments)?;
     let given = read_schedule(files, alloc, arguments)?;
@@ -63,6 +64,7 @@ pub fn read_sectors<F: Files>(
 ) -> Result<(Scheduled, View), Refusal>
     ensures schedule { IfOk result (λ asked. GivesScheduled (found_of arguments.now) asked.0) }
     ensures view { IfOk result (λ asked. GivesView (found_of arguments.now) asked.1) }
+    ensures refused { IfErr result (LacksViewed (found_of arguments.now)) }
 {
     let view = view_options(arguments)?;
     let given = read_schedule(files, alloc, arguments)?;

@@ -1,7 +1,8 @@
 //! `type`: what the trailers of a flash ask for.
-ghost use Rattle.std.specs.Prelude.{◌≡◌, IfOk};
+ghost use Rattle.std.specs.Prelude.{◌≡◌, IfErr, IfOk};
 ghost use Rattle.clap.specs.Matches.{found_of};
 ghost use Rattle.mc_actions.specs.Layouts.{AnswersType, yes_or_no};
+ghost use Rattle.mc_options.specs.Refusals.{LacksStart};
 ghost use Rattle.mc_options.specs.Sources.{GivesStart};
 ghost use Rattle.mc_trailer.specs.Trailer.{trailer_of};
 
@@ -25,12 +26,15 @@ pub fn read<F: Files>(
     alloc: Global,
     arguments: &ArgMatches<'_>,
 ) -> Result<Start, Refusal>
-    ensures { IfOk result (GivesStart (found_of arguments.now)) }
+    ensures given { IfOk result (GivesStart (found_of arguments.now)) }
+    ensures refused { IfErr result (LacksStart (found_of arguments.now)) }
 {
-    match flash_options(arguments) {
-        Ok(options) => read_start(files, alloc, &options),
-        Err(refusal) => Err(refusal),
-    }
+    let options = match flash_options(arguments) {
+        Ok(options) => options,
+        Err(refusal) => return Err(refusal),
+    };
+    let start = read_start(files, alloc, &options)?;
+    Ok(start)
 }
 
 /// `yes` or `no`.

@@ -2,7 +2,7 @@
 ghost use Rattle.std.specs.Prelude.{◌≡◌, IfErr, IfOk, IsOk, None, OnErr, OnOk};
 ghost use Rattle.std.specs.Io.KnownBytes.{Appends};
 ghost use Rattle.clap.specs.Matches.{found_of};
-ghost use Rattle.mc_actions.specs.Vectors.{AnswersVectors, AreFlashes, AreFound, GivesCuts, GivesFolder, GivesTorn, GivesVectors, IsFew, RefusesSearch, bound_of, count_of, is_whole, table_of};
+ghost use Rattle.mc_actions.specs.Vectors.{AnswersVectors, AreFlashes, AreFound, GivesCuts, GivesFolder, GivesTorn, GivesVectors, IsFew, LacksCuts, LacksFolder, LacksTorn, LacksVectors, RefusesSearch, bound_of, count_of, is_whole, table_of};
 ghost use Rattle.mc_output.specs.Text.{AppendsPrefix};
 
 use crate::trailers::yes_or_no;
@@ -41,6 +41,7 @@ impl Cuts {
     fn read(arguments: &ArgMatches<'_>) -> Result<Cuts, Refusal>
         ensures given { IfOk result (GivesCuts (found_of arguments.now)) }
         ensures taken { (cuts : Cuts) → GivesCuts (found_of arguments.now) cuts → IsOk result }
+        ensures refused { IfErr result (LacksCuts (found_of arguments.now)) }
         ensures range { IfOk result (λ cuts. IsFew cuts) }
     {
         if required(arguments, "cuts")? == "all" {
@@ -66,7 +67,8 @@ impl Cuts {
 ///
 /// `Argument` where `--erase` is given without `--torn`.
 fn torn_option(arguments: &ArgMatches<'_>) -> Result<Option<Erasing>, Refusal>
-    ensures { IfOk result (GivesTorn (found_of arguments.now)) }
+    ensures given { IfOk result (GivesTorn (found_of arguments.now)) }
+    ensures refused { IfErr result (LacksTorn (found_of arguments.now)) }
 {
     match (arguments.get_flag("torn"), arguments.get_str("erase")) {
         (false, None) => Ok(None),
@@ -381,7 +383,8 @@ impl<'p> NewFolder<'p> {
     ///
     /// `Argument` where patches are asked for without a folder.
     fn named(arguments: &ArgMatches<'p>) -> Result<Option<NewFolder<'p>>, Refusal>
-        ensures { IfOk result (GivesFolder (found_of arguments.now)) }
+        ensures given { IfOk result (GivesFolder (found_of arguments.now)) }
+        ensures refused { IfErr result (LacksFolder (found_of arguments.now)) }
     {
         let patches = arguments.get_flag("patches");
         match arguments.get_str("dir") {
@@ -414,6 +417,7 @@ pub fn read<'p, F: Files>(
 ) -> Result<VectorsAsked<'p>, Refusal>
     ensures given { IfOk result (GivesVectors (found_of arguments.now)) }
     ensures few { IfOk result (λ asked. IsFew asked.cuts) }
+    ensures refused { IfErr result (LacksVectors (found_of arguments.now)) }
 {
     let options = match flash_options(arguments) {
         Ok(options) => options,

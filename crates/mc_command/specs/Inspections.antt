@@ -1,19 +1,19 @@
 -- What a dump is, and where it occurs in a swap of two images.
 use Rattle.std.specs.Prelude.{Bool, List, None, Ok, Option, Some, codes, false, length, ℕ, ◌&&◌, ◌++◌, ◌≡◌, ◌≤◌, ◌⊎◌}
-use Rattle.clap.specs.declared.parser.matches.Found.{Found as Words}
+use Rattle.clap.specs.{Words.{first_value}, declared.parser.matches.Found.{Found as Words}}
 use Rattle.mc_actions.specs.Layouts.{yes_or_no}
 use Rattle.mc_boot.specs.declared.kind.Kind.{Kind}
 use Rattle.mc_boot.specs.declared.kind.Kind.TheVariants as kinds
 use Rattle.mc_explore.specs.Rows.{subject}
 use Rattle.mc_flash.specs.{Flash.{Content}, Geometry.{Geometry}, declared.flash.FlashError.{FlashError}}
-use Rattle.mc_options.specs.{Arguments.{GivesLayout, GivesRules, kind_text}, Requests.{End, IsAnswered, IsDone, IsUnwritten}, declared.refusal.Refusal.{Refusal}}
+use Rattle.mc_options.specs.{Arguments.{GivesLayout, GivesRules, kind_text}, Refusals.{GivesOne, IsOfFile, IsOfStart, LacksLayout, LacksOption, LacksRules}, Requests.{End, IsAnswered, IsDone, IsUnwritten}, declared.refusal.Refusal.{Refusal}}
 use Rattle.mc_options.specs.declared.refusal.Refusal.TheVariants as refusals
 use Rattle.mc_start.specs.{Start.{Started, Starts, begun}, declared.start.StartError.{StartError}}
 use Rattle.mc_trace.specs.Inspection.{inspection_text}
 use Rattle.mc_trace.specs.declared.error.TraceError.TheVariants as errors
 use Rattle.mc_trailer.specs.declared.tables.Rules.{Rules}
 use Rattle.mc_vectors.specs.{Cases.{AtMost}, Locating.{IsNearest, located_text}}
-use Rattle.mc_verdict.specs.{Requests.{CensusAsked, EndsCensus, RefusesCensus, counts_text}, Verdicts.{GivesAsked}}
+use Rattle.mc_verdict.specs.{Requests.{CensusAsked, EndsCensus, RefusesCensus, counts_text}, Verdicts.{GivesAsked, LacksEnds, NeverJudged}}
 use Rattle.mc_command.specs.{declared.inspect.Found.{Found}, declared.inspect.Images.{Images}, declared.inspect.Inspected.{Inspected}, declared.inspect.LocateAsked.{LocateAsked}}
 
 -- The image in the primary at the start of a swap of that kind, and the one in the secondary: a revert takes the test of b back.
@@ -49,6 +49,19 @@ pub record GivesInspect (words : Words) (i : Inspected) : Type 0 where
   pub asked : GivesAsked words i.wanted.asked
   pub cuts : i.wanted.cuts ≡ 16
   pub plain : i.wanted.images_return ≡ false
+
+-- The words give no dump; of two known images one alone is named, or a file is not read; and why there is nothing to inspect, or to locate.
+abbrev pub LacksDump : Words → Refusal → Type 0
+LacksDump words e = (LacksLayout words e ⊎ LacksRules words e) ⊎ LacksOption words (codes "flash") e
+
+abbrev pub LacksKnown : Words → Refusal → Type 0
+LacksKnown words e = ((e ≡ refusals.Source) × GivesOne words (codes "known-a") (codes "known-b")) ⊎ IsOfFile e
+
+abbrev pub LacksInspect : Words → Refusal → Type 0
+LacksInspect words e = (LacksDump words e ⊎ LacksEnds words e) ⊎ ((NeverJudged words e ⊎ LacksKnown words e) ⊎ IsOfStart e)
+
+abbrev pub LacksLocate : Words → Refusal → Type 0
+LacksLocate words e = (LacksDump words e ⊎ LacksKnown words e) ⊎ (((e ≡ refusals.Source) × (first_value words (codes "known-a") ≡ None)) ⊎ IsOfStart e)
 
 -- What the slots would hold with the known images, if they are given.
 abbrev pub AreNamed : Inspected → Option Content → Type 0

@@ -1,14 +1,15 @@
 -- How many operations a picture shows, and how it is answered.
 use Rattle.std.specs.Prelude.{List, Option, [], min, ℕ, ◌+◌, ◌-◌, ◌<◌, ◌∷◌, ◌≡◌, ◌⊎◌}
-use Rattle.mc_actions.specs.declared.schedule.Scheduled.{Scheduled}
+use Rattle.clap.specs.declared.parser.matches.Found.{Found}
+use Rattle.mc_actions.specs.{Schedules.{LacksScheduled}, declared.schedule.Scheduled.{Scheduled}}
 use Rattle.mc_boot.specs.Outcome.{Report}
 use Rattle.mc_explore.specs.{Schedules.{IsReplayed, RefusesReplay}, declared.replays.ReplayError.{ReplayError}}
 use Rattle.mc_flash.specs.Flash.{Content}
-use Rattle.mc_options.specs.{Requests.{End, IsAnswered, IsDone}, declared.refusal.Refusal.{Refusal}}
+use Rattle.mc_options.specs.{Refusals.{LacksSpan}, Requests.{End, IsAnswered, IsDone}, declared.refusal.Refusal.{Refusal}}
 use Rattle.mc_options.specs.declared.refusal.Refusal.TheVariants as refusals
 use Rattle.mc_start.specs.Start.{begun}
 use Rattle.mc_trace.specs.{Picture.{IsPicture}, declared.error.TraceError.{TraceError}, declared.trace.Span.{Span}}
-use Rattle.mc_verdict.specs.{Verdicts.{expected_ends}, declared.verdict.Ends.{Ends}}
+use Rattle.mc_verdict.specs.{Verdicts.{LacksEnds, expected_ends}, declared.verdict.Ends.{Ends}}
 
 -- So many of the first n numbers lie in a span.
 abbrev pub within : Span → ℕ → ℕ
@@ -18,6 +19,10 @@ within span n = min n (span.to + 1) - span.from
 abbrev pub rows_in : Span → List ℕ → ℕ → ℕ
 rows_in span [] last = within span last
 rows_in span (cut ∷ cuts) last = within span (cut + 1) + rows_in span cuts last
+
+-- The words give none.
+abbrev pub LacksPicture : Found → Refusal → Type 0
+LacksPicture found e = (LacksEnds found e ⊎ LacksSpan found e) ⊎ LacksScheduled found e
 
 -- The picture of a schedule, for what is expected of its slots.
 pub record Drawn (s : Scheduled) (ends : Ends) (span : Span) : Type 0 where

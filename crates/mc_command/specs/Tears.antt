@@ -1,21 +1,21 @@
 -- What is asked of torn operations, and how it is answered.
-use Rattle.std.specs.Prelude.{List, None, Option, Some, codes, is_some, true, ℕ, ◌≡◌, ◌⊎◌}
+use Rattle.std.specs.Prelude.{Err, List, None, Option, Some, codes, is_some, true, ℕ, ◌<◌, ◌≡◌, ◌⊎◌}
 use Rattle.clap.specs.{Words.{first_value}, declared.parser.matches.Found.{Found}}
-use Rattle.mc_actions.specs.{Schedules.{GivesScheduled}, declared.schedule.Scheduled.{Scheduled}}
+use Rattle.mc_actions.specs.{Schedules.{GivesScheduled, LacksScheduled}, Vectors.{IsNoErasing}, declared.schedule.Scheduled.{Scheduled}}
 use Rattle.mc_boot.specs.{Outcome.{after}, Plan.{again}}
 use Rattle.mc_command.specs.{declared.tears.CaseFile.{CaseFile}, declared.tears.TearsAsked.{TearsAsked}}
-use Rattle.mc_explore.specs.declared.expectation.Expectation.{Expectation}
+use Rattle.mc_explore.specs.{Schedules.{RefusesReplay}, declared.expectation.Expectation.{Expectation}, declared.replays.ReplayError.{ReplayError}}
 use Rattle.mc_explore.specs.declared.error.ExploreError.TheVariants as errors
 use Rattle.mc_flash.specs.Flash.{Content}
-use Rattle.mc_options.specs.{Arguments.{IsFlag}, Numbers.{GivesNumber}, Requests.{End, IsAnswered, IsUnwritten}, declared.refusal.Refusal.{Refusal}}
+use Rattle.mc_options.specs.{Arguments.{IsFlag}, Numbers.{GivesNumber}, Refusals.{GivesOne, HasText, LacksLayout, LacksNumber}, Requests.{End, IsAnswered, IsUnwritten}, declared.refusal.Refusal.{Refusal}}
 use Rattle.mc_options.specs.declared.numbers.NumberOption.TheVariants as numbers
 use Rattle.mc_options.specs.declared.refusal.Refusal.TheVariants as refusals
 use Rattle.mc_start.specs.Start.{Started, begun}
-use Rattle.mc_tear.specs.{Readings.{reading_text}, declared.torn.Erasing.{Erasing}}
+use Rattle.mc_tear.specs.{Readings.{reading_of, reading_text}, declared.torn.Erasing.{Erasing}}
 use Rattle.mc_tear.specs.declared.torn.Erasing.TheVariants as erasings
 use Rattle.mc_tears.specs.{Tears.{all_right, tears_text}, declared.error.TearError.{TearError}}
 use Rattle.mc_tears.specs.declared.error.TearError.TheVariants as tear_errors
-use Rattle.mc_verdict.specs.{Sessions.{or_any}, Verdicts.{GivesAsked, IsExpectation, is_of_slots, verdict_of}, declared.verdict.Asked.{Asked}}
+use Rattle.mc_verdict.specs.{Sessions.{or_any}, Verdicts.{GivesAsked, IsExpectation, LacksEnds, NeverJudged, is_of_slots, verdict_of}, declared.verdict.Asked.{Asked}}
 use Rattle.std.specs.Prelude.{Ok}
 
 -- The words say how an erase fails: gently, where they do not.
@@ -50,6 +50,33 @@ pub record GivesTears (found : Found) (t : TearsAsked) : Type 0 where
   pub all : IsFlag found (codes "all") t.torn.all
   pub file : GivesCase found t.file
   pub start : StartsAfter found t.asked t.start t.torn.expectation
+
+-- They give none of these: a text names no way in which an erase fails.
+abbrev pub LacksErasing : Found → Refusal → Type 0
+LacksErasing found e = (e ≡ refusals.Argument) × HasText found (codes "erase") IsNoErasing
+
+-- A text is that of no reading; or of the three words of a case only some are given.
+abbrev pub IsNoReading : List ℕ → Type 0
+IsNoReading text = (n : ℕ) → n < 192 → text ≡ reading_text (reading_of n) → ⊥
+
+abbrev pub LacksCase : Found → Refusal → Type 0
+LacksCase found e =
+    (LacksNumber found numbers.At e ⊎ ((e ≡ refusals.NoReading) × HasText found (codes "reading") IsNoReading))
+    ⊎ ((e ≡ refusals.Argument) × (GivesOne found (codes "at") (codes "reading") ⊎ GivesOne found (codes "reading") (codes "out")))
+
+-- The boot after the schedule is not found: what a slot is to hold is not known, or a cut can't occur, or an allocation failed.
+pub record LacksBoot (found : Found) (asked : Asked) (e : Refusal) : Type 0 where
+  pub given : Scheduled
+  pub gives : GivesScheduled found given
+  pub fails : IsExpectation asked given.start.named (Err e) ⊎ ((error : ReplayError) × (e ≡ refusals.Replay error) × RefusesReplay (begun given.start) given.schedule error)
+
+abbrev pub LacksStartAfter : Found → Asked → Refusal → Type 0
+LacksStartAfter found asked e = LacksScheduled found e ⊎ (LacksBoot found asked e ⊎ (e ≡ refusals.Explore errors.Memory))
+
+abbrev pub LacksTears : Found → Refusal → Type 0
+LacksTears found e =
+    ((LacksLayout found e ⊎ LacksEnds found e) ⊎ (NeverJudged found e ⊎ LacksErasing found e))
+    ⊎ (LacksCase found e ⊎ ((asked : Asked) × GivesAsked found asked × LacksStartAfter found asked e))
 
 -- The flash of a case is to be written.
 abbrev pub HasFile : TearsAsked → Type 0

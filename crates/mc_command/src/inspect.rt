@@ -1,8 +1,10 @@
 //! `inspect` and `locate`: what a dump of a device is, and where it occurs in a swap of two images.
-ghost use Rattle.std.specs.Prelude.{◌≡◌, ◌<◌, ◌≤◌, ◌&&◌, length, IfErr, IfOk, IfSome, option_map};
+ghost use Rattle.std.specs.Prelude.{◌≡◌, ◌<◌, ◌≤◌, ◌&&◌, codes, length, IfErr, IfOk, IfSome, None, option_map};
 ghost use Rattle.clap.specs.Matches.{found_of};
+ghost use Rattle.clap.specs.Words.{first_value};
+ghost use Rattle.mc_options.specs.Refusals.{IsOfStart};
 ghost use Rattle.mc_options.specs.Arguments.{GivesLayout, GivesRules};
-ghost use Rattle.mc_command.specs.Inspections.{AnswersInspect, AnswersLocate, AreNamed, GivesDump, GivesInspect, IsFound, IsNearestOf, IsSwapOf, RefusesNamed, first_of, second_of};
+ghost use Rattle.mc_command.specs.Inspections.{AnswersInspect, AnswersLocate, AreNamed, GivesDump, GivesInspect, IsFound, IsNearestOf, IsSwapOf, LacksDump, LacksInspect, LacksKnown, LacksLocate, RefusesNamed, first_of, second_of};
 
 use clap::ArgMatches;
 use mc_actions::trailers::yes_or_no;
@@ -53,7 +55,11 @@ impl Images {
         files: &F,
         alloc: Global,
         arguments: &ArgMatches<'_>,
-    ) -> Result<Option<Images>, Refusal> {
+    ) -> Result<Option<Images>, Refusal>
+        ensures none { IfOk result (λ images. images ≡ None
+            → first_value (found_of arguments.now) (codes "known-a") ≡ None) }
+        ensures refused { IfErr result (LacksKnown (found_of arguments.now)) }
+    {
         match (arguments.get_str("known-a"), arguments.get_str("known-b")) {
             (Some(a), Some(b)) => Ok(Some(Images {
                 a: read_file(files, alloc, a, GREATEST_IMAGE)?,
@@ -105,6 +111,7 @@ impl<'a> Dump<'a> {
     fn named(arguments: &ArgMatches<'a>) -> Result<Dump<'a>, Refusal>
         ensures layout { IfOk result (λ d. GivesLayout (found_of arguments.now) d.layout) }
         ensures rules { IfOk result (λ d. GivesRules (found_of arguments.now) d.rules) }
+        ensures refused { IfErr result (LacksDump (found_of arguments.now)) }
     {
         let layout = layout_options(arguments)?;
         let rules = rules_options(arguments)?;
@@ -123,6 +130,7 @@ impl<'a> Dump<'a> {
     fn read<F: Files>(&self, files: &F, alloc: Global) -> Result<Start, Refusal>
         ensures layout { IfOk result (λ start. start.geometry ≡ self.now.layout) }
         ensures rules { IfOk result (λ start. start.rules ≡ self.now.rules) }
+        ensures refused { IfErr result IsOfStart }
     {
         let bytes = read_file(files, alloc, self.path, GREATEST_FLASH)?;
         let start = Start::from_flash(alloc, &self.layout, bytes.as_slice())?;
@@ -148,6 +156,7 @@ pub fn read<F: Files>(
     arguments: &ArgMatches<'_>,
 ) -> Result<Inspected, Refusal>
     ensures given { IfOk result (GivesInspect (found_of arguments.now)) }
+    ensures refused { IfErr result (LacksInspect (found_of arguments.now)) }
 {
     let dump = match Dump::named(arguments) {
         Ok(dump) => dump,
@@ -262,7 +271,8 @@ pub fn read_locate<F: Files>(
     alloc: Global,
     arguments: &ArgMatches<'_>,
 ) -> Result<LocateAsked, Refusal>
-    ensures { IfOk result (λ asked. GivesDump (found_of arguments.now) asked.flash) }
+    ensures given { IfOk result (λ asked. GivesDump (found_of arguments.now) asked.flash) }
+    ensures refused { IfErr result (LacksLocate (found_of arguments.now)) }
 {
     let dump = match Dump::named(arguments) {
         Ok(dump) => dump,

@@ -1,10 +1,10 @@
 //! The commands of `mcsim`, over the image tool, the flashes and the boots, and the exit status of a command line.
 #![tactic(auto)]
 
-ghost use Rattle.std.specs.Prelude.{◌≡◌, ◌≤◌, ◌⊎◌, codes};
+ghost use Rattle.std.specs.Prelude.{◌≤◌};
 ghost use Rattle.clap.specs.Matches.{found_of};
-ghost use Rattle.mc_actions.specs.Lives.{AnswersLife, GivesLife};
-ghost use Rattle.mc_command.specs.Commands.{Answers, Asks, IsApart};
+ghost use Rattle.mc_actions.specs.Lives.{AnswersLife, GivesLife, LacksLife};
+ghost use Rattle.mc_command.specs.Commands.{Answers, Asks, LacksNamed, Runs, RunsWhole};
 ghost use Rattle.mc_options.specs.Requests.{IsRun};
 
 mod inspect;
@@ -21,7 +21,7 @@ use mc_options::{
     Refusal, asks_file, flush, print_cost, print_note, report_file, report_reason, with_files,
 };
 use mc_output::WriteFailed;
-pub use request::Request;
+pub use request::{Command, Request};
 use std::alloc::Global;
 use std::io::{Read, Write};
 use std::rt::Files;
@@ -79,15 +79,9 @@ fn run_words<F: Files, R: Read, O: Write, E: Write>(
     // What is said beside the output, and cannot be written, changes nothing.
     let _ = print_cost(name, arguments, err);
     let mut watched = WatchedWriter::new(out);
-    let done = run_command(&files, alloc, name, arguments, input, &mut watched, err);
-    // What was printed goes out before a refusal is told, and what failed first is told.
-    let refusal = match (done, flush(&mut watched)) {
-        (Ok(()), Ok(())) => {
-            let _ = print_note(&files, name, arguments, err);
-            return 0;
-        }
-        (Err(refusal), _) => refusal,
-        (Ok(()), Err(WriteFailed)) => Refusal::Write,
+    let Err(refusal) = run_whole(&files, alloc, name, arguments, input, &mut watched, err) else {
+        let _ = print_note(&files, name, arguments, err);
+        return 0;
     };
     let status = refusal.report(err);
     if arguments.get_flag("verbose") {
@@ -137,6 +131,30 @@ fn left_out_of(words: &[String]) -> Option<(&'static str, &'static str)> {
     }
 }
 
+/// Runs the command of that name, and hands on what a buffer holds of its text, also before a refusal is told.
+///
+/// # Errors
+///
+/// Those of the command; `Write` where it is done, and the rest of its text cannot be handed on.
+pub fn run_whole<F: Files, R: Read, O: Write, E: Write>(
+    files: &WatchedFiles<'_, F>,
+    alloc: Global,
+    name: &str,
+    arguments: &ArgMatches<'_>,
+    input: &mut R,
+    out: &mut O,
+    err: &mut E,
+) -> Result<(), Refusal>
+    ensures { RunsWhole name.now (found_of arguments.now) (R.remaining input.old)
+        (O.contents out.old) (O.contents out.new) result }
+{
+    let done = run_command(files, alloc, name, arguments, input, out, err);
+    match (done, flush(out)) {
+        (Ok(()), Err(WriteFailed)) => Err(Refusal::Write),
+        (done, _) => done,
+    }
+}
+
 /// Runs the command of that name.
 ///
 /// # Errors
@@ -151,11 +169,8 @@ fn run_command<F: Files, R: Read, O: Write, E: Write>(
     out: &mut O,
     err: &mut E,
 ) -> Result<(), Refusal>
-    ensures request { IsApart name.now ⊎ IsRun (Asks name.now (found_of arguments.now))
-        (λ request. Answers request (R.remaining input.old)) (O.contents out.old)
-        (O.contents out.new) result }
-    ensures life { name.now ≡ codes "life" → IsRun (GivesLife (found_of arguments.now))
-        AnswersLife (O.contents out.old) (O.contents out.new) result }
+    ensures { Runs name.now (found_of arguments.now) (R.remaining input.old)
+        (O.contents out.old) (O.contents out.new) result }
 {
     match name {
         "life" => run_life(files, alloc, arguments, input, out),
@@ -168,7 +183,7 @@ fn run_command<F: Files, R: Read, O: Write, E: Write>(
 ///
 /// # Errors
 ///
-/// Those of `Request::read` and `Request::answer`.
+/// `Argument` where no such command has that name; those of `Request::read` and `Request::answer`.
 pub fn run_request<F: Files, R: Read, O: Write, E: Write>(
     files: &WatchedFiles<'_, F>,
     alloc: Global,
@@ -179,10 +194,14 @@ pub fn run_request<F: Files, R: Read, O: Write, E: Write>(
     err: &mut E,
 ) -> Result<(), Refusal>
     ensures { IsRun (Asks name.now (found_of arguments.now))
+        (LacksNamed name.now (found_of arguments.now))
         (λ request. Answers request (R.remaining input.old)) (O.contents out.old)
         (O.contents out.new) result }
 {
-    let request = Request::read(files, alloc, name, arguments)?;
+    let Some(command) = Command::named(name) else {
+        return Err(Refusal::Argument);
+    };
+    let request = Request::read(files, alloc, command, arguments)?;
     request.answer(files, alloc, input, out, err)
 }
 
@@ -198,8 +217,8 @@ fn run_life<F: Files, R: Read, O: Write>(
     input: &mut R,
     out: &mut O,
 ) -> Result<(), Refusal>
-    ensures { IsRun (GivesLife (found_of arguments.now)) AnswersLife (O.contents out.old)
-        (O.contents out.new) result }
+    ensures { IsRun (GivesLife (found_of arguments.now)) (LacksLife (found_of arguments.now))
+        AnswersLife (O.contents out.old) (O.contents out.new) result }
 {
     let life = life::read(files, alloc, arguments, input)?;
     life::answer(files, alloc, &life, out)

@@ -1,8 +1,8 @@
 //! `picture`: a page that shows the boots of a schedule.
-ghost use Rattle.std.specs.Prelude.{◌≡◌, ◌<◌, ◌≤◌, ◌+◌, ◌*◌, ◌^◌, IfOk, MatchResult, length};
+ghost use Rattle.std.specs.Prelude.{◌≡◌, ◌<◌, ◌≤◌, ◌+◌, ◌*◌, ◌^◌, IfErr, IfOk, MatchResult, length};
 ghost use Rattle.clap.specs.Matches.{found_of};
 ghost use Rattle.mc_actions.specs.Schedules.{GivesScheduled};
-ghost use Rattle.mc_command.specs.Pictures.{AnswersPicture, rows_in, within};
+ghost use Rattle.mc_command.specs.Pictures.{AnswersPicture, LacksPicture, rows_in, within};
 ghost use Rattle.mc_options.specs.Arguments.{GivesSpan};
 ghost use Rattle.mc_verdict.specs.Verdicts.{GivesEnds};
 
@@ -70,6 +70,7 @@ pub fn read<F: Files>(
     ensures schedule { IfOk result (λ asked. GivesScheduled (found_of arguments.now) asked.0) }
     ensures ends { IfOk result (λ asked. GivesEnds (found_of arguments.now) asked.1) }
     ensures span { IfOk result (λ asked. GivesSpan (found_of arguments.now) asked.2) }
+    ensures refused { IfErr result (LacksPicture (found_of arguments.now)) }
 {
     let ends = Ends::read(arguments)?;
     let span = span_options(arguments)?;

@@ -1,7 +1,7 @@
 //! What a command is asked for, and its answer.
-ghost use Rattle.std.specs.Prelude.{IfOk, codes};
+ghost use Rattle.std.specs.Prelude.{◌≡◌, IfErr, IfOk, MatchOption, codes};
 ghost use Rattle.clap.specs.Matches.{found_of};
-ghost use Rattle.mc_command.specs.Commands.{Answers, Asks, IsBounded};
+ghost use Rattle.mc_command.specs.Commands.{Answers, Asks, IsBounded, Lacks, command_name};
 
 use crate::inspect::{Inspected, LocateAsked};
 use crate::tears::TearsAsked;
@@ -25,6 +25,59 @@ use mc_verdict::{Asked, Ends, census, explore};
 use std::alloc::Global;
 use std::io::{Read, Write};
 use std::rt::Files;
+
+/// A command whose words alone, and the files that they name, say what is asked.
+#[derive(Clone, Copy, Debug)]
+pub enum Command {
+    Create,
+    Verify,
+    Dumpinfo,
+    Layout,
+    Type,
+    Boot,
+    Replay,
+    Trace,
+    Sectors,
+    Picture,
+    Tears,
+    Vectors,
+    Inspect,
+    Locate,
+    Explore,
+    Campaign,
+    Survey,
+    Census,
+}
+
+impl Command {
+    /// The command of that name.
+    pub fn named(name: &str) -> Option<Command>
+        ensures { MatchOption result ((command : Command) → name.now ≡ command_name command → ⊥)
+            (λ command. name.now ≡ command_name command) }
+    {
+        match name {
+            "create" => Some(Command::Create),
+            "verify" => Some(Command::Verify),
+            "dumpinfo" => Some(Command::Dumpinfo),
+            "layout" => Some(Command::Layout),
+            "type" => Some(Command::Type),
+            "boot" => Some(Command::Boot),
+            "replay" => Some(Command::Replay),
+            "trace" => Some(Command::Trace),
+            "sectors" => Some(Command::Sectors),
+            "picture" => Some(Command::Picture),
+            "tears" => Some(Command::Tears),
+            "vectors" => Some(Command::Vectors),
+            "inspect" => Some(Command::Inspect),
+            "locate" => Some(Command::Locate),
+            "explore" => Some(Command::Explore),
+            "campaign" => Some(Command::Campaign),
+            "survey" => Some(Command::Survey),
+            "census" => Some(Command::Census),
+            _ => None,
+        }
+    }
+}
 
 /// What a command is asked for.
 #[derive(Drop)]
@@ -74,30 +127,40 @@ pub enum Request<'p> {
 }
 
 impl<'p> Request<'p> {
-    /// What the words of the command of that name ask for. They are checked before a file is touched.
+    /// What the words of a command ask for. They are checked before a file is touched.
     ///
     /// # Errors
     ///
-    /// `Argument` where no such command has that name; what refuses the words or their files.
+    /// What refuses the words or their files.
     pub fn read<F: Files>(
         files: &F,
         alloc: Global,
-        name: &str,
+        command: Command,
         arguments: &ArgMatches<'p>,
     ) -> Result<Request<'p>, Refusal>
-        ensures asks { IfOk result (Asks name.now (found_of arguments.now)) }
+        ensures asks { IfOk result (Asks (command_name command) (found_of arguments.now)) }
         ensures bounded { IfOk result IsBounded }
+        ensures refused { IfErr result (Lacks command (found_of arguments.now)) }
     {
-        match name {
-            "create" => read_create(arguments),
-            "verify" => Ok(Request::Verify(infile_named(arguments))),
-            "dumpinfo" => Ok(read_dumpinfo(arguments)),
-            "layout" => read_layout(arguments),
-            "type" => read_type(files, alloc, arguments),
-            "boot" => read_boot(files, alloc, arguments),
-            "replay" => read_replay(files, alloc, arguments),
-            "trace" => read_trace(files, alloc, arguments),
-            _ => read_many(files, alloc, name, arguments),
+        match command {
+            Command::Create => read_create(arguments),
+            Command::Verify => Ok(Request::Verify(infile_named(arguments))),
+            Command::Dumpinfo => Ok(read_dumpinfo(arguments)),
+            Command::Layout => read_layout(arguments),
+            Command::Type => read_type(files, alloc, arguments),
+            Command::Boot => read_boot(files, alloc, arguments),
+            Command::Replay => read_replay(files, alloc, arguments),
+            Command::Trace => read_trace(files, alloc, arguments),
+            Command::Sectors => read_sectors(files, alloc, arguments),
+            Command::Picture => read_picture(files, alloc, arguments),
+            Command::Tears => read_tears(files, alloc, arguments),
+            Command::Vectors => read_vectors(files, alloc, arguments),
+            Command::Inspect => read_inspect(files, alloc, arguments),
+            Command::Locate => read_locate(files, alloc, arguments),
+            Command::Explore => read_explore(files, alloc, arguments),
+            Command::Campaign => read_campaign(files, alloc, arguments),
+            Command::Survey => read_survey(files, alloc, arguments),
+            Command::Census => read_census(files, alloc, arguments),
         }
     }
 
@@ -154,35 +217,6 @@ impl<'p> Request<'p> {
     }
 }
 
-/// What the words ask for of many schedules, or of a dump.
-///
-/// # Errors
-///
-/// `Argument` where no such command has that name; what refuses the words or their files.
-fn read_many<'p, F: Files>(
-    files: &F,
-    alloc: Global,
-    name: &str,
-    arguments: &ArgMatches<'p>,
-) -> Result<Request<'p>, Refusal>
-    ensures asks { IfOk result (Asks name.now (found_of arguments.now)) }
-    ensures bounded { IfOk result IsBounded }
-{
-    match name {
-        "sectors" => read_sectors(files, alloc, arguments),
-        "picture" => read_picture(files, alloc, arguments),
-        "tears" => read_tears(files, alloc, arguments),
-        "vectors" => read_vectors(files, alloc, arguments),
-        "inspect" => read_inspect(files, alloc, arguments),
-        "locate" => read_locate(files, alloc, arguments),
-        "explore" => read_explore(files, alloc, arguments),
-        "campaign" => read_campaign(files, alloc, arguments),
-        "survey" => read_survey(files, alloc, arguments),
-        "census" => read_census(files, alloc, arguments),
-        _ => Err(Refusal::Argument),
-    }
-}
-
 /// What `create` is asked for.
 ///
 /// # Errors
@@ -191,6 +225,7 @@ fn read_many<'p, F: Files>(
 fn read_create<'p>(arguments: &ArgMatches<'p>) -> Result<Request<'p>, Refusal>
     ensures asks { IfOk result (Asks (codes "create") (found_of arguments.now)) }
     ensures bounded { IfOk result IsBounded }
+    ensures refused { IfErr result (Lacks Command.Create (found_of arguments.now)) }
 {
     let creation = Creation::read(arguments)?;
     Ok(Request::Create(creation))
@@ -213,6 +248,7 @@ fn read_dumpinfo<'p>(arguments: &ArgMatches<'p>) -> Request<'p>
 fn read_layout<'p>(arguments: &ArgMatches<'p>) -> Result<Request<'p>, Refusal>
     ensures asks { IfOk result (Asks (codes "layout") (found_of arguments.now)) }
     ensures bounded { IfOk result IsBounded }
+    ensures refused { IfErr result (Lacks Command.Layout (found_of arguments.now)) }
 {
     let (layout, times) = layout::read(arguments)?;
     Ok(Request::Layout(layout, times))
@@ -230,6 +266,7 @@ fn read_type<'p, F: Files>(
 ) -> Result<Request<'p>, Refusal>
     ensures asks { IfOk result (Asks (codes "type") (found_of arguments.now)) }
     ensures bounded { IfOk result IsBounded }
+    ensures refused { IfErr result (Lacks Command.Type (found_of arguments.now)) }
 {
     let start = trailers::read(files, alloc, arguments)?;
     Ok(Request::Type(start))
@@ -247,6 +284,7 @@ fn read_boot<'p, F: Files>(
 ) -> Result<Request<'p>, Refusal>
     ensures asks { IfOk result (Asks (codes "boot") (found_of arguments.now)) }
     ensures bounded { IfOk result IsBounded }
+    ensures refused { IfErr result (Lacks Command.Boot (found_of arguments.now)) }
 {
     let (given, outputs) = replay::read_boot(files, alloc, arguments)?;
     Ok(Request::Replay(given, outputs))
@@ -264,6 +302,7 @@ fn read_replay<'p, F: Files>(
 ) -> Result<Request<'p>, Refusal>
     ensures asks { IfOk result (Asks (codes "replay") (found_of arguments.now)) }
     ensures bounded { IfOk result IsBounded }
+    ensures refused { IfErr result (Lacks Command.Replay (found_of arguments.now)) }
 {
     if has_two_rounds(arguments)? {
         let given = rounds::read(files, alloc, arguments)?;
@@ -285,6 +324,7 @@ fn read_trace<'p, F: Files>(
 ) -> Result<Request<'p>, Refusal>
     ensures asks { IfOk result (Asks (codes "trace") (found_of arguments.now)) }
     ensures bounded { IfOk result IsBounded }
+    ensures refused { IfErr result (Lacks Command.Trace (found_of arguments.now)) }
 {
     if has_two_rounds(arguments)? {
         let text = RoundText::Operations(span_options(arguments)?);
@@ -306,6 +346,7 @@ fn read_sectors<'p, F: Files>(
 ) -> Result<Request<'p>, Refusal>
     ensures asks { IfOk result (Asks (codes "sectors") (found_of arguments.now)) }
     ensures bounded { IfOk result IsBounded }
+    ensures refused { IfErr result (Lacks Command.Sectors (found_of arguments.now)) }
 {
     if has_two_rounds(arguments)? {
         let text = RoundText::Sectors(view_options(arguments)?);
@@ -327,6 +368,7 @@ fn read_picture<'p, F: Files>(
 ) -> Result<Request<'p>, Refusal>
     ensures asks { IfOk result (Asks (codes "picture") (found_of arguments.now)) }
     ensures bounded { IfOk result IsBounded }
+    ensures refused { IfErr result (Lacks Command.Picture (found_of arguments.now)) }
 {
     let (given, ends, span) = picture::read(files, alloc, arguments)?;
     Ok(Request::Picture(given, ends, span))
@@ -344,6 +386,7 @@ fn read_tears<'p, F: Files>(
 ) -> Result<Request<'p>, Refusal>
     ensures asks { IfOk result (Asks (codes "tears") (found_of arguments.now)) }
     ensures bounded { IfOk result IsBounded }
+    ensures refused { IfErr result (Lacks Command.Tears (found_of arguments.now)) }
 {
     let asked = tears::read(files, alloc, arguments)?;
     Ok(Request::Tears(asked))
@@ -361,6 +404,7 @@ fn read_vectors<'p, F: Files>(
 ) -> Result<Request<'p>, Refusal>
     ensures asks { IfOk result (Asks (codes "vectors") (found_of arguments.now)) }
     ensures bounded { IfOk result IsBounded }
+    ensures refused { IfErr result (Lacks Command.Vectors (found_of arguments.now)) }
 {
     let asked = vectors::read(files, alloc, arguments)?;
     Ok(Request::Vectors(asked))
@@ -378,6 +422,7 @@ fn read_inspect<'p, F: Files>(
 ) -> Result<Request<'p>, Refusal>
     ensures asks { IfOk result (Asks (codes "inspect") (found_of arguments.now)) }
     ensures bounded { IfOk result IsBounded }
+    ensures refused { IfErr result (Lacks Command.Inspect (found_of arguments.now)) }
 {
     let asked = inspect::read(files, alloc, arguments)?;
     Ok(Request::Inspect(asked))
@@ -395,6 +440,7 @@ fn read_locate<'p, F: Files>(
 ) -> Result<Request<'p>, Refusal>
     ensures asks { IfOk result (Asks (codes "locate") (found_of arguments.now)) }
     ensures bounded { IfOk result IsBounded }
+    ensures refused { IfErr result (Lacks Command.Locate (found_of arguments.now)) }
 {
     let asked = inspect::read_locate(files, alloc, arguments)?;
     Ok(Request::Locate(asked))
@@ -412,6 +458,7 @@ fn read_explore<'p, F: Files>(
 ) -> Result<Request<'p>, Refusal>
     ensures asks { IfOk result (Asks (codes "explore") (found_of arguments.now)) }
     ensures bounded { IfOk result IsBounded }
+    ensures refused { IfErr result (Lacks Command.Explore (found_of arguments.now)) }
 {
     let (asked, page) = explore::ask::<Schedules, F>(files, alloc, arguments)?;
     Ok(Request::Explore(asked, page))
@@ -429,6 +476,7 @@ fn read_campaign<'p, F: Files>(
 ) -> Result<Request<'p>, Refusal>
     ensures asks { IfOk result (Asks (codes "campaign") (found_of arguments.now)) }
     ensures bounded { IfOk result IsBounded }
+    ensures refused { IfErr result (Lacks Command.Campaign (found_of arguments.now)) }
 {
     let (asked, page) = explore::ask::<Campaigns, F>(files, alloc, arguments)?;
     Ok(Request::Campaigns(asked, page))
@@ -446,6 +494,7 @@ fn read_survey<'p, F: Files>(
 ) -> Result<Request<'p>, Refusal>
     ensures asks { IfOk result (Asks (codes "survey") (found_of arguments.now)) }
     ensures bounded { IfOk result IsBounded }
+    ensures refused { IfErr result (Lacks Command.Survey (found_of arguments.now)) }
 {
     if has_two_rounds(arguments)? {
         let (asked, page) = explore::ask::<Campaigns, F>(files, alloc, arguments)?;
@@ -467,6 +516,7 @@ fn read_census<'p, F: Files>(
 ) -> Result<Request<'p>, Refusal>
     ensures asks { IfOk result (Asks (codes "census") (found_of arguments.now)) }
     ensures bounded { IfOk result IsBounded }
+    ensures refused { IfErr result (Lacks Command.Census (found_of arguments.now)) }
 {
     if has_two_rounds(arguments)? {
         let wanted = census::read::<Campaigns, F>(files, alloc, arguments)?;

@@ -1,7 +1,7 @@
 //! `tears`: what power that is lost within an operation of a boot leads to.
-ghost use Rattle.std.specs.Prelude.{◌≡◌, IfOk, OnErr};
+ghost use Rattle.std.specs.Prelude.{◌≡◌, IfErr, IfOk, OnErr};
 ghost use Rattle.clap.specs.Matches.{found_of};
-ghost use Rattle.mc_command.specs.Tears.{AnswersTears, GivesCase, GivesErasing, GivesTears, HasFile, StartsAfter, refused_as};
+ghost use Rattle.mc_command.specs.Tears.{AnswersTears, GivesCase, GivesErasing, GivesTears, HasFile, LacksCase, LacksErasing, LacksStartAfter, LacksTears, StartsAfter, refused_as};
 
 use clap::ArgMatches;
 use mc_actions::replay::write_file;
@@ -32,7 +32,8 @@ fn refused(error: TearError) -> Refusal
 ///
 /// `Argument` where the text names no way.
 fn erasing_option(arguments: &ArgMatches<'_>) -> Result<Erasing, Refusal>
-    ensures { IfOk result (GivesErasing (found_of arguments.now)) }
+    ensures given { IfOk result (GivesErasing (found_of arguments.now)) }
+    ensures refused { IfErr result (LacksErasing (found_of arguments.now)) }
 {
     match arguments.get_str("erase") {
         None | Some("gentle") => Ok(Erasing::Gentle),
@@ -56,7 +57,8 @@ impl<'p> CaseFile<'p> {
     ///
     /// `Number` and `NoReading` of the words; `Argument` where one of the three is missing.
     fn named(arguments: &ArgMatches<'p>) -> Result<Option<CaseFile<'p>>, Refusal>
-        ensures { IfOk result (GivesCase (found_of arguments.now)) }
+        ensures given { IfOk result (GivesCase (found_of arguments.now)) }
+        ensures refused { IfErr result (LacksCase (found_of arguments.now)) }
     {
         let number = NumberOption::At.read(arguments)?;
         let reading = match arguments.get_str("reading") {
@@ -95,8 +97,9 @@ fn start_after<F: Files>(
     arguments: &ArgMatches<'_>,
     asked: &Asked,
 ) -> Result<(Start, Expectation), Refusal>
-    ensures { IfOk result (λ given. StartsAfter (found_of arguments.now) asked.now given.0
+    ensures given { IfOk result (λ given. StartsAfter (found_of arguments.now) asked.now given.0
         given.1) }
+    ensures refused { IfErr result (LacksStartAfter (found_of arguments.now) asked.now) }
 {
     let given = read_schedule(files, alloc, arguments)?;
     let expectation = asked.expectation(given.start.named())?;
@@ -117,7 +120,8 @@ pub fn read<'p, F: Files>(
     alloc: Global,
     arguments: &ArgMatches<'p>,
 ) -> Result<TearsAsked<'p>, Refusal>
-    ensures { IfOk result (GivesTears (found_of arguments.now)) }
+    ensures given { IfOk result (GivesTears (found_of arguments.now)) }
+    ensures refused { IfErr result (LacksTears (found_of arguments.now)) }
 {
     let layout = layout_options(arguments)?;
     let asked = Asked::read(arguments)?;

@@ -33,6 +33,9 @@ no_version found a b v e at_a at_b names only =
     let read : refused e ≡ Ok v = only v (rw same names) in
     absurd (cc)
 
+pub names_none : (text : List ℕ) (e : VersionError) → ((w : Version) → Names text w → refused e ≡ Ok w) → (w : Version) → Names text w → ⊥
+names_none text e only w names = let read : refused e ≡ Ok w = only w names in absurd (cc)
+
 -- Where a source is given, none is refused.
 pub source_given : (found : Found) (s : Source) → GivesSource found s → is_source found ≡ true
 source_given found (sources.Flash path) given = rw (given.0, given.1, given.2, given.3) refl

@@ -2,4 +2,5 @@ pub mod Numbers
 pub mod Arguments
 pub mod Statuses
 pub mod Sources
+pub mod Refusals
 pub mod Requests

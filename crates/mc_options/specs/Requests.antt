@@ -16,11 +16,11 @@ IsAnswered {A} text Ends Refuses Breaks before after end =
     ⊎ (((e : Refusal) × (end ≡ Err e) × Refuses e × (after ≡ before))
     ⊎ ((e : Refusal) × (end ≡ Err e) × Breaks e × (a : A) × AppendsPrefix before after (text a)))
 
--- The words of a command line are answered: they give a request, which is; or they, or the files that they name, are refused before a
--- byte is out.
-abbrev pub IsRun : {W : Type 0} → (W → Type 0) → (W → Option (List ℕ) → Option (List ℕ) → End → Type 0) → Option (List ℕ) → Option (List ℕ) → End → Type 0
-IsRun {W} Gives Answers before after end =
-    ((w : W) × Gives w × Answers w before after end) ⊎ ((e : Refusal) × (end ≡ Err e) × (after ≡ before))
+-- The words of a command line are answered: they give a request, which is; or they, or the files that they name, are refused for a reason,
+-- before a byte is out.
+abbrev pub IsRun : {W : Type 0} → (W → Type 0) → (Refusal → Type 0) → (W → Option (List ℕ) → Option (List ℕ) → End → Type 0) → Option (List ℕ) → Option (List ℕ) → End → Type 0
+IsRun {W} Gives Lacks Answers before after end =
+    ((w : W) × Gives w × Answers w before after end) ⊎ ((e : Refusal) × (end ≡ Err e) × Lacks e × (after ≡ before))
 
 -- Each answer ends so: all is done.
 abbrev pub IsDone : {A : Type 0} → A → End → Type 0

@@ -1,11 +1,14 @@
 -- The start that the bytes of a source's files make.
-use Rattle.std.specs.{Prelude.{◌≡◌, ℕ, ◌^◌, List, Vec, Ok, ⊤}, declared.alloc.Global.{Global}}
+use Rattle.std.specs.{Prelude.{◌≡◌, ◌⊎◌, ℕ, ◌^◌, List, Vec, Ok, ⊤}, declared.alloc.Global.{Global}}
 use denote.Ref.{Bor}
 use Rattle.mc_flash.specs.Geometry.{Geometry}
 use Rattle.mc_start.specs.Start.{Started, Starts, Gives, of_flash}
 use Rattle.clap.specs.declared.parser.matches.Found.{Found}
 use Rattle.mc_options.specs.{Arguments.{GivesFlash}, declared.options.FlashOptions.{FlashOptions}, declared.options.Source.{Source}}
 use Rattle.mc_options.specs.declared.options.Source.TheVariants as sources
+use Rattle.mc_options.specs.declared.refusal.Refusal.{Refusal}
+use Rattle.mc_options.specs.declared.refusal.Refusal.TheVariants as refusals
+use Rattle.mc_start.specs.declared.start.StartError.{StartError}
 
 -- What reading gives for a path and a limit.
 abbrev pub Reading : Type 1
@@ -24,6 +27,10 @@ abbrev pub ComesOf : Reading → FlashOptions → Started → Type 0
 ComesOf reads o s =
     (plain : Started) × OfSource reads o.layout o.source plain
     × (s ≡ record { geometry = plain.geometry; rules = o.rules; content = plain.content; named = plain.named })
+
+-- A file is not read so, or the bytes that are read make no start.
+abbrev pub FailsFrom : (Bor (List ℕ) → ℕ → Refusal → Type 0) → Refusal → Type 0
+FailsFrom fails e = ((path : Bor (List ℕ)) × (limit : ℕ) × fails path limit e) ⊎ ((error : StartError) × (e ≡ refusals.Start error))
 
 -- The same of some bytes.
 abbrev pub IsStartOf : FlashOptions → Started → Type 0

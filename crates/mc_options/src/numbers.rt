@@ -1,8 +1,9 @@
 //! The options that take a number, and the numbers that they give.
-ghost use Rattle.std.specs.Prelude.{◌≡◌, ℕ, ◌≤◌, ◌^◌, MatchOption, MatchResult, IfOk, IsOk};
+ghost use Rattle.std.specs.Prelude.{◌≡◌, ℕ, ◌≤◌, ◌^◌, MatchOption, MatchResult, IfErr, IfOk, IsOk};
 ghost use Rattle.std.specs.Str.Parse.{IsNumeral, digits_value};
 ghost use Rattle.clap.specs.Matches.{found_of};
-ghost use Rattle.mc_options.specs.Numbers.{option_name, least_of, most_of, radix_of, digits_of, IsTaken, GivesNumber, MayGiveNumber, GivesNoNumber};
+ghost use Rattle.mc_options.specs.Numbers.{option_name, least_of, most_of, radix_of, digits_of, GivesNumber, MayGiveNumber, GivesNoNumber};
+ghost use Rattle.mc_options.specs.Refusals.{LacksRequired};
 
 use crate::refusal::Refusal;
 use clap::ArgMatches;
@@ -113,6 +114,7 @@ impl NumberOption {
     pub fn read_required(self, arguments: &ArgMatches<'_>) -> Result<u32, Refusal>
         ensures given { IfOk result (GivesNumber (found_of arguments.now) self) }
         ensures taken { (n : ℕ) → GivesNumber (found_of arguments.now) self n → IsOk result }
+        ensures refused { IfErr result (LacksRequired (found_of arguments.now) self) }
     {
         self.read(arguments)?.ok_or(Refusal::Argument)
     }

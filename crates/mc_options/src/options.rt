@@ -1,9 +1,10 @@
 //! What the words of a command line say.
-ghost use Rattle.std.specs.Prelude.{◌≡◌, ◌↔◌, ◌≤◌, ℕ, Option, codes, true, false, Some, None, Err, IfOk, IfSome, IsOk, MatchResult, MatchOption, option_map};
+ghost use Rattle.std.specs.Prelude.{◌≡◌, ◌↔◌, ◌≤◌, ℕ, Option, codes, true, false, Some, None, Err, IfErr, IfOk, IfSome, IsOk, MatchResult, MatchOption, option_map};
 ghost use Rattle.clap.specs.Matches.{found_of};
 ghost use Rattle.clap.specs.Words.{first_value};
 ghost use Rattle.mc_options.specs.Numbers.{GivesNumber, IsUnit};
 ghost use Rattle.mc_flash.specs.Geometry.{Geometry, refusal_of};
+ghost use Rattle.mc_options.specs.Refusals.{ConfirmsAlone, HasText, IsSyntax, LacksCreate, LacksExtent, LacksFlash, LacksLayout, LacksRange, LacksRequired, LacksRules, LacksSpan, LacksTimes, LacksUnit, LacksView};
 ghost use Rattle.mc_options.specs.Arguments.{GivesCreate, GivesLayout, Judges, GivesSource, RefusesSource, is_source, kind_text, GivesRules, GivesFlash, GivesExtent, GivesRange, GivesSpan, GivesView, HasTexts, MayGiveTimes, gives_two};
 
 use crate::numbers::NumberOption;
@@ -40,6 +41,7 @@ fn align(arguments: &ArgMatches<'_>) -> Result<u8, Refusal>
         × IsUnit n) }
     ensures taken { (n : ℕ) → GivesNumber (found_of arguments.now) NumberOption.Align n → IsUnit n
         → IsOk result }
+    ensures refused { IfErr result (LacksUnit (found_of arguments.now)) }
 {
     match NumberOption::Align.read_required(arguments)? {
         unit @ (1 | 2 | 4 | 8) => Ok(unit as u8),
@@ -56,6 +58,7 @@ fn align(arguments: &ArgMatches<'_>) -> Result<u8, Refusal>
 pub fn create_options(arguments: &ArgMatches<'_>) -> Result<CreateOptions, Refusal>
     ensures given { IfOk result (GivesCreate (found_of arguments.now)) }
     ensures taken { (o : CreateOptions) → GivesCreate (found_of arguments.now) o → IsOk result }
+    ensures refused { IfErr result (LacksCreate (found_of arguments.now)) }
 {
     let version = Version::read(required(arguments, "version")?)?;
     Ok(CreateOptions {
@@ -81,6 +84,7 @@ pub fn layout_options(arguments: &ArgMatches<'_>) -> Result<Layout, Refusal>
     ensures given { IfOk result (λ l. GivesLayout (found_of arguments.now) l) }
     ensures judged { (g : Geometry) → GivesLayout (found_of arguments.now) g
         → Judges (refusal_of g) result }
+    ensures refused { IfErr result (LacksLayout (found_of arguments.now)) }
 {
     let sector = NumberOption::Sector.read_required(arguments)?;
     let unit = NumberOption::Unit.read_required(arguments)?;
@@ -103,6 +107,7 @@ pub fn times_options(arguments: &ArgMatches<'_>) -> Result<Option<Times>, Refusa
     ensures given { IfOk result (MayGiveTimes (found_of arguments.now)) }
     ensures taken { (times : Option Times) → MayGiveTimes (found_of arguments.now) times
         → IsOk result }
+    ensures refused { IfErr result (LacksTimes (found_of arguments.now)) }
 {
     let erase = NumberOption::EraseUs.read(arguments)?;
     let write = NumberOption::WriteUs.read(arguments)?;
@@ -179,6 +184,7 @@ fn source_options<'a>(arguments: &ArgMatches<'a>) -> Result<Source<'a>, Refusal>
 pub fn rules_options(arguments: &ArgMatches<'_>) -> Result<Rules, Refusal>
     ensures given { IfOk result (GivesRules (found_of arguments.now)) }
     ensures taken { (rules : Rules) → GivesRules (found_of arguments.now) rules → IsOk result }
+    ensures refused { IfErr result (LacksRules (found_of arguments.now)) }
 {
     let mut rules = Rules::PLAIN;
     if let Some(text) = arguments.get_str("grain") {
@@ -209,6 +215,7 @@ pub fn flash_options<'a>(arguments: &ArgMatches<'a>) -> Result<FlashOptions<'a>,
     ensures judged { (s : Source) (g : Geometry) (rules : Rules)
         → GivesSource (found_of arguments.now) s → GivesLayout (found_of arguments.now) g
         → GivesRules (found_of arguments.now) rules → Judges (refusal_of g) result }
+    ensures refused { IfErr result (LacksFlash (found_of arguments.now)) }
 {
     let source = source_options(arguments)?;
     let layout = layout_options(arguments)?;
@@ -227,7 +234,7 @@ pub fn flash_options<'a>(arguments: &ArgMatches<'a>) -> Result<FlashOptions<'a>,
 /// `Argument` where the image is to confirm itself after the only round.
 pub fn has_two_rounds(arguments: &ArgMatches<'_>) -> Result<bool, Refusal>
     ensures { MatchResult result (λ two. (two ≡ true) ↔ (first_value (found_of arguments.now)
-        (codes "rounds") ≡ Some (codes "2"))) (λ e. e ≡ Refusal.Argument) }
+        (codes "rounds") ≡ Some (codes "2"))) (ConfirmsAlone (found_of arguments.now)) }
 {
     let two = matches!(arguments.get_str("rounds"), Some("2"));
     if arguments.get_flag("confirm") && !two {
@@ -244,6 +251,7 @@ pub fn has_two_rounds(arguments: &ArgMatches<'_>) -> Result<bool, Refusal>
 pub fn span_options(arguments: &ArgMatches<'_>) -> Result<Span, Refusal>
     ensures given { IfOk result (GivesSpan (found_of arguments.now)) }
     ensures taken { (s : Span) → GivesSpan (found_of arguments.now) s → IsOk result }
+    ensures refused { IfErr result (LacksSpan (found_of arguments.now)) }
 {
     let from = NumberOption::From.read(arguments)?;
     let to = NumberOption::To.read(arguments)?;
@@ -261,6 +269,7 @@ pub fn span_options(arguments: &ArgMatches<'_>) -> Result<Span, Refusal>
 pub fn view_options(arguments: &ArgMatches<'_>) -> Result<View, Refusal>
     ensures given { IfOk result (GivesView (found_of arguments.now)) }
     ensures taken { (v : View) → GivesView (found_of arguments.now) v → IsOk result }
+    ensures refused { IfErr result (LacksView (found_of arguments.now)) }
 {
     let words = match arguments.get_str("words") {
         None | Some("plain") => Words::Plain,
@@ -293,6 +302,7 @@ pub fn census_options(arguments: &ArgMatches<'_>) -> Result<u8, Refusal>
     ensures given { IfOk result (GivesNumber (found_of arguments.now) NumberOption.Cuts) }
     ensures taken { (n : ℕ) → GivesNumber (found_of arguments.now) NumberOption.Cuts n
         → IsOk result }
+    ensures refused { IfErr result (LacksRequired (found_of arguments.now) NumberOption.Cuts) }
     ensures range { IfOk result (λ cuts. cuts ≤ 16) }
 {
     Ok(NumberOption::Cuts.read_required(arguments)? as u8)
@@ -306,6 +316,7 @@ pub fn census_options(arguments: &ArgMatches<'_>) -> Result<u8, Refusal>
 pub fn explore_options(arguments: &ArgMatches<'_>) -> Result<ExploreOptions, Refusal>
     ensures given { IfOk result (GivesExtent (found_of arguments.now)) }
     ensures taken { (o : ExploreOptions) → GivesExtent (found_of arguments.now) o → IsOk result }
+    ensures refused { IfErr result (LacksExtent (found_of arguments.now)) }
     ensures range { IfOk result (λ o. (o.cuts ≤ 16) × (1 ≤ o.limit)) }
 {
     let cuts = census_options(arguments)?;
@@ -332,7 +343,8 @@ pub struct RangeOptions<U, K> {
 
 /// What an option is given by its text.
 pub trait Spelled: Copy {
-    ghost use Rattle.std.specs.Prelude.{◌≡◌, ℕ, List, IfOk, IsOk};
+    ghost use Rattle.std.specs.Prelude.{◌≡◌, ℕ, List, IfErr, IfOk, IsOk};
+    ghost use Rattle.mc_options.specs.Refusals.{IsSyntax};
 
     ghost spelling: { Self → List ℕ };
 
@@ -346,7 +358,8 @@ pub trait Spelled: Copy {
     fn of_text(text: &str) -> Result<Self, Refusal>
         ensures given { IfOk result (λ value. text.now ≡ spelling value) }
         ensures taken { (value : Self) → IsSpelled value → text.now ≡ spelling value → IsOk
-            result };
+            result }
+        ensures refused { IfErr result IsSyntax };
 }
 
 impl Spelled for Schedule {
@@ -407,6 +420,8 @@ fn option_of<T: Spelled>(arguments: &ArgMatches<'_>, name: &str) -> Result<Optio
         ≡ option_map T.spelling o) }
     ensures taken { (o : Option T) → IfSome o T.IsSpelled
         → first_value (found_of arguments.now) name.now ≡ option_map T.spelling o → IsOk result }
+    ensures refused { IfErr result (λ e. IsSyntax e × HasText (found_of arguments.now) name.now
+        (λ text. (value : T) → T.IsSpelled value → text ≡ T.spelling value → ⊥)) }
 {
     match arguments.get_str(name) {
         Some(text) => Ok(Some(T::of_text(text)?)),
@@ -438,6 +453,10 @@ pub fn range_options<U: Spelled, K: Spelled>(
         → GivesRange U.spelling K.spelling (found_of arguments.now) o → IsOk result }
     ensures two { gives_two (found_of arguments.now) ≡ true → result
         ≡ Err Refusal.CursorOptions }
+    ensures refused { IfErr result (LacksRange
+        (λ text. (cursor : U) → U.IsSpelled cursor → text ≡ U.spelling cursor → ⊥)
+        (λ text. (key : K) → K.IsSpelled key → text ≡ K.spelling key → ⊥)
+        (found_of arguments.now)) }
 {
     if gives_two(arguments) {
         return Err(Refusal::CursorOptions);

@@ -11,6 +11,7 @@ use mc_imgtool::ToolError;
 use mc_life::{EventError, LifeError, ScriptError};
 use mc_output::WriteFailed;
 use mc_trace::TraceError;
+use std::alloc::AllocError;
 use std::io::Write;
 use thiserror::Error;
 
@@ -28,7 +29,7 @@ pub enum Refusal {
     Number(NumberOption),
     /// The text of a version is refused.
     #[error(transparent)]
-    Version(#[from] VersionError),
+    Version(VersionError),
     /// The options of a source do not go together.
     #[error("E70 SourceOptions")]
     Source,
@@ -37,19 +38,19 @@ pub enum Refusal {
     Layout(#[from] LayoutError),
     /// The text of a schedule is refused.
     #[error(transparent)]
-    Schedule(#[from] ScheduleError),
+    Schedule(ScheduleError),
     /// The text of a campaign is refused.
     #[error(transparent)]
-    Campaign(#[from] CampaignError),
+    Campaign(CampaignError),
     /// The text of a cursor is refused.
     #[error(transparent)]
-    Cursor(#[from] CursorError),
+    Cursor(CursorError),
     /// The images or the bytes of a source are refused.
     #[error(transparent)]
-    Start(#[from] StartError),
+    Start(StartError),
     /// The schedule is not replayed.
     #[error(transparent)]
-    Replay(#[from] ReplayError),
+    Replay(ReplayError),
     /// The schedule is not traced.
     #[error(transparent)]
     Trace(#[from] TraceError),
@@ -64,7 +65,7 @@ pub enum Refusal {
     Flash(#[from] FlashError),
     /// The image tool refuses.
     #[error(transparent)]
-    Tool(#[from] ToolError),
+    Tool(ToolError),
     /// No refusal has the number or the name that is to be explained.
     #[error("no refusal has this number or name")]
     Unexplained,
@@ -88,7 +89,7 @@ pub enum Refusal {
     Device,
     /// The script is not read.
     #[error(transparent)]
-    Script(#[from] ScriptError),
+    Script(ScriptError),
     /// The file that is to be written is one that is read.
     #[error("E75 SameFile")]
     SameFile,
@@ -131,6 +132,96 @@ impl From<ExploreError> for Refusal {
 
     fn from(error: ExploreError) -> Self {
         Refusal::Explore(error)
+    }
+}
+
+impl From<VersionError> for Refusal {
+    ghost use Rattle.mc_options.specs.declared.refusal.Refusal.TheVariants.{Version};
+
+    ghost from_gives = { λ error refusal. refusal ≡ Version error };
+
+    fn from(error: VersionError) -> Self {
+        Refusal::Version(error)
+    }
+}
+
+impl From<ScheduleError> for Refusal {
+    ghost use Rattle.mc_options.specs.declared.refusal.Refusal.TheVariants.{Schedule};
+
+    ghost from_gives = { λ error refusal. refusal ≡ Schedule error };
+
+    fn from(error: ScheduleError) -> Self {
+        Refusal::Schedule(error)
+    }
+}
+
+impl From<CampaignError> for Refusal {
+    ghost use Rattle.mc_options.specs.declared.refusal.Refusal.TheVariants.{Campaign};
+
+    ghost from_gives = { λ error refusal. refusal ≡ Campaign error };
+
+    fn from(error: CampaignError) -> Self {
+        Refusal::Campaign(error)
+    }
+}
+
+impl From<CursorError> for Refusal {
+    ghost use Rattle.mc_options.specs.declared.refusal.Refusal.TheVariants.{Cursor};
+
+    ghost from_gives = { λ error refusal. refusal ≡ Cursor error };
+
+    fn from(error: CursorError) -> Self {
+        Refusal::Cursor(error)
+    }
+}
+
+impl From<StartError> for Refusal {
+    ghost use Rattle.mc_options.specs.declared.refusal.Refusal.TheVariants.{Start};
+
+    ghost from_gives = { λ error refusal. refusal ≡ Start error };
+
+    fn from(error: StartError) -> Self {
+        Refusal::Start(error)
+    }
+}
+
+impl From<ReplayError> for Refusal {
+    ghost use Rattle.mc_options.specs.declared.refusal.Refusal.TheVariants.{Replay};
+
+    ghost from_gives = { λ error refusal. refusal ≡ Replay error };
+
+    fn from(error: ReplayError) -> Self {
+        Refusal::Replay(error)
+    }
+}
+
+impl From<ToolError> for Refusal {
+    ghost use Rattle.mc_options.specs.declared.refusal.Refusal.TheVariants.{Tool};
+
+    ghost from_gives = { λ error refusal. refusal ≡ Tool error };
+
+    fn from(error: ToolError) -> Self {
+        Refusal::Tool(error)
+    }
+}
+
+impl From<ScriptError> for Refusal {
+    ghost use Rattle.mc_options.specs.declared.refusal.Refusal.TheVariants.{Script};
+
+    ghost from_gives = { λ error refusal. refusal ≡ Script error };
+
+    fn from(error: ScriptError) -> Self {
+        Refusal::Script(error)
+    }
+}
+
+impl From<AllocError> for Refusal {
+    ghost use Rattle.mc_options.specs.declared.refusal.Refusal.TheVariants.{Memory};
+
+    ghost from_gives = { λ _ refusal. refusal ≡ Memory };
+
+    fn from(_: AllocError) -> Self {
+        Refusal::Memory
     }
 }
 

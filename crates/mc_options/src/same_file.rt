@@ -1,7 +1,9 @@
 //! Whether two paths lead to one file, and files that would be lost.
-ghost use Rattle.std.specs.Prelude.{◌≡◌, false, true, IfOk};
+ghost use Rattle.std.specs.Prelude.{◌≡◌, false, is_some, true, IfErr, IfOk};
 ghost use Rattle.clap.specs.Matches.{found_of};
+ghost use Rattle.clap.specs.Words.{first_value};
 ghost use Rattle.mc_options.specs.Arguments.{AreApart, IsKept, KeepsFiles};
+ghost use Rattle.mc_options.specs.Refusals.{IsLost};
 
 use crate::refusal::Refusal;
 use clap::ArgMatches;
@@ -25,7 +27,9 @@ pub fn is_same_file<F: Files>(files: &F, first: &str, second: &str) -> bool
 
 /// Whether two options both name a file, and that is one file.
 fn share_file<F: Files>(files: &F, arguments: &ArgMatches<'_>, first: &str, second: &str) -> bool
-    ensures { result ≡ false → AreApart (found_of arguments.now) first.now second.now }
+    ensures apart { result ≡ false → AreApart (found_of arguments.now) first.now second.now }
+    ensures given { result ≡ true → is_some (first_value (found_of arguments.now) first.now)
+        ≡ true }
 {
     match (arguments.get_str(first), arguments.get_str(second)) {
         (Some(first), Some(second)) => is_same_file(files, first, second),
@@ -34,7 +38,9 @@ fn share_file<F: Files>(files: &F, arguments: &ArgMatches<'_>, first: &str, seco
 }
 
 /// Whether the file that an option names is one of those that layouts are read from.
-fn is_layout<F: Files>(files: &F, arguments: &ArgMatches<'_>, option: &str) -> bool {
+fn is_layout<F: Files>(files: &F, arguments: &ArgMatches<'_>, option: &str) -> bool
+    ensures { result ≡ true → is_some (first_value (found_of arguments.now) option.now) ≡ true }
+{
     match (arguments.get_str(option), arguments.get_strs("layout")) {
         (Some(path), Some(layouts)) => layouts.iter().any(|it| is_same_file(files, path, it)),
         _ => false,
@@ -43,7 +49,9 @@ fn is_layout<F: Files>(files: &F, arguments: &ArgMatches<'_>, option: &str) -> b
 
 /// Whether the file that an option names to be written is an image, a script or a layout that is read.
 fn is_lost<F: Files>(files: &F, arguments: &ArgMatches<'_>, option: &str) -> bool
-    ensures { result ≡ false → IsKept (found_of arguments.now) option.now }
+    ensures kept { result ≡ false → IsKept (found_of arguments.now) option.now }
+    ensures given { result ≡ true → is_some (first_value (found_of arguments.now) option.now)
+        ≡ true }
 {
     share_file(files, arguments, option, "image-a")
         || share_file(files, arguments, option, "image-b")
@@ -60,7 +68,8 @@ fn is_lost<F: Files>(files: &F, arguments: &ArgMatches<'_>, option: &str) -> boo
 /// `SameFile`.
 pub fn check_outputs<F: Files>(files: &F, arguments: &ArgMatches<'_>) -> Result<(), Refusal>
     // Of the paths by their texts. What they lead to is not known here.
-    ensures { IfOk result (λ _. KeepsFiles (found_of arguments.now)) }
+    ensures kept { IfOk result (λ _. KeepsFiles (found_of arguments.now)) }
+    ensures refused { IfErr result (IsLost (found_of arguments.now)) }
 {
     if is_lost(files, arguments, "out")
         || is_lost(files, arguments, "at-cut")

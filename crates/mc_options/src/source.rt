@@ -1,6 +1,7 @@
 //! The flash that a command starts from, read from its files.
-ghost use Rattle.std.specs.Prelude.{◌≡◌, Ok, IfOk};
-ghost use Rattle.mc_options.specs.Sources.{ComesOf, IsStartOf};
+ghost use Rattle.std.specs.Prelude.{Err, Ok, IfErr, IfOk};
+ghost use Rattle.mc_options.specs.Refusals.{IsOfFile, IsOfStart};
+ghost use Rattle.mc_options.specs.Sources.{ComesOf, FailsFrom, IsStartOf};
 
 use crate::options::{FlashOptions, Source};
 use crate::refusal::Refusal;
@@ -26,9 +27,16 @@ pub fn read_file<F: Files>(
     alloc: Global,
     path: &str,
     limit: u32,
-) -> Result<Vec<u8>, Refusal> {
-    let mut file = fs::open(files, path).map_err(|_| Refusal::Open)?;
-    Ok(read_bounded(alloc, &mut file, limit)?)
+) -> Result<Vec<u8>, Refusal>
+    ensures { IfErr result IsOfFile }
+{
+    let Ok(mut file) = fs::open(files, path) else {
+        return Err(Refusal::Open);
+    };
+    match read_bounded(alloc, &mut file, limit) {
+        Ok(bytes) => Ok(bytes),
+        Err(error) => Err(Refusal::Tool(error)),
+    }
 }
 
 /// The start of a source, of whose files this reads the bytes. The first image is read before the second.
@@ -46,6 +54,7 @@ fn start_of<R: Fn(&str, u32) -> Result<Vec<u8>, Refusal>>(
     ensures read { IfOk result (ComesOf (λ path limit bytes. R.post read path limit (Ok bytes))
         options.now) }
     ensures given { IfOk result (IsStartOf options.now) }
+    ensures refused { IfErr result (FailsFrom (λ path limit e. R.post read path limit (Err e))) }
 {
     let layout = &options.layout;
     match &options.source {
@@ -75,7 +84,8 @@ pub fn read_start<F: Files>(
     options: &FlashOptions<'_>,
 ) -> Result<Start, Refusal>
     // It is of the layout, the kind and the rules that are given. What bytes the files hold is not known here.
-    ensures { IfOk result (IsStartOf options.now) }
+    ensures given { IfOk result (IsStartOf options.now) }
+    ensures refused { IfErr result IsOfStart }
 {
     start_of(
         alloc,

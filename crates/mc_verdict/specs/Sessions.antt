@@ -1,5 +1,5 @@
 -- The starts and the explorations that the options of a command give.
-use Rattle.std.specs.Prelude.{◌≡◌, ℕ, Bool, List, Option, Some, None, Result, Ok, Err, false, not, option_map, true, unwrap_or}
+use Rattle.std.specs.Prelude.{◌≡◌, ◌⊎◌, ℕ, Bool, List, Option, Some, None, Result, Ok, Err, false, not, option_map, true, unwrap_or}
 use Rattle.clap.specs.declared.parser.matches.Found.{Found}
 use Rattle.mc_boot.specs.{Plan.{PowerOn}, declared.kind.Kind.{Kind}}
 use Rattle.mc_boot.specs.declared.kind.Kind.TheVariants as starts
@@ -10,9 +10,11 @@ use Rattle.mc_explore.specs.declared.expectation.Expectation.{Expectation}
 use Rattle.mc_explore.specs.declared.expectation.Wanted.TheVariants as wanted
 use Rattle.mc_explore.specs.{declared.rights.RightsOf.{RightsOf}, declared.subject.Fields.{Fields}, declared.tally.TallyOf.{TallyOf}}
 use Rattle.mc_image.specs.Valid.{Identity}
-use Rattle.mc_start.specs.Start.{begun}
-use Rattle.mc_options.specs.{Arguments.{GivesExtent, GivesFlash, GivesRange}, Numbers.{GivesNumber}, Sources.{IsStartOf}}
-use Rattle.mc_verdict.specs.{Verdicts.{IsExpectation, GivesAsked}, declared.census.Counts.{Counts}, declared.census.Wanted.{Wanted}}
+use Rattle.mc_start.specs.{Cursor.{IsCursor, cursor_text}, Start.{begun}, declared.cursor.Cursor.{Cursor}}
+use Rattle.mc_campaign.specs.declared.cursor.CampaignCursor.{CampaignCursor}
+use Rattle.mc_campaign.specs.Texts as campaigns
+use Rattle.mc_options.specs.{Arguments.{GivesExtent, GivesFlash, GivesRange}, Numbers.{GivesNumber}, Refusals.{IsOfStart, LacksExtent, LacksFlash, LacksRange, LacksRequired}, Sources.{IsStartOf}}
+use Rattle.mc_verdict.specs.{Verdicts.{IsExpectation, GivesAsked, LacksEnds, NeverJudged}, declared.census.Counts.{Counts}, declared.census.Wanted.{Wanted}}
 use Rattle.mc_verdict.specs.declared.explore.Exploration.{Exploration}
 use Rattle.mc_options.specs.declared.numbers.NumberOption.TheVariants as numbers
 use Rattle.mc_options.specs.{declared.options.FlashOptions.{FlashOptions}, declared.options.Source.{Source}}
@@ -51,6 +53,23 @@ pub record GivesExploration {C K R U : Type 0} (x : Subject C K R U) (IsChoice :
   pub images_return : e.images_return ≡ images_return returns options.source e.choice
   pub extent : GivesExtent found e.extent
   pub range : GivesRange x.cursor_text x.key_text found e.range
+
+-- A text is that of no cursor.
+abbrev pub IsNoCursor : List ℕ → Type 0
+IsNoCursor text = (c : Cursor) → IsCursor c → text ≡ cursor_text c → ⊥
+
+abbrev pub IsNoCampaignCursor : List ℕ → Type 0
+IsNoCampaignCursor text = (c : CampaignCursor) → campaigns.IsCursor c → text ≡ campaigns.cursor_text c → ⊥
+
+-- They give no exploration, whose cursors and keys have such texts.
+abbrev pub LacksExploration : (List ℕ → Type 0) → (List ℕ → Type 0) → Found → Refusal → Type 0
+LacksExploration IsNoCursor IsNoKey found e =
+    ((LacksEnds found e ⊎ LacksFlash found e) ⊎ (LacksExtent found e ⊎ LacksRange IsNoCursor IsNoKey found e)) ⊎ (NeverJudged found e ⊎ IsOfStart e)
+
+-- They give no census.
+abbrev pub LacksCensus : Found → Refusal → Type 0
+LacksCensus found e =
+    ((LacksEnds found e ⊎ LacksFlash found e) ⊎ LacksRequired found numbers.Cuts e) ⊎ (NeverJudged found e ⊎ IsOfStart e)
 
 module _ {C K R U : Type 0} (x : Subject C K R U) (fields : U → Fields C K) where
   -- An explorer after a key, with a key next, after that of the cursor, or at the start; or why there is none.

@@ -1,12 +1,12 @@
 -- What is to be right at the end, and how a survey and a census end.
-use Rattle.std.specs.Prelude.{◌≡◌, ℕ, Bool, true, false, List, Option, Some, None, [], Result, Ok, Err, IfSome, codes, if◌then◌else◌, is_none, is_some, length, not, ◌&&◌, ◌||◌, ◌<◌, ◌==◌}
+use Rattle.std.specs.Prelude.{◌≡◌, ◌⊎◌, ℕ, Bool, true, false, List, Option, Some, None, [], Result, Ok, Err, IfSome, codes, if◌then◌else◌, is_none, is_some, length, not, ◌&&◌, ◌||◌, ◌<◌, ◌==◌}
 use Rattle.clap.specs.{Words.{first_value}, declared.parser.matches.Found.{Found}}
 use Rattle.mc_boot.specs.Outcome.{Report}
-use Rattle.mc_explore.specs.{Pages.{Page}, Right.{AllEndRight, Wants, rights_by, rights_text}, Subject.{Subject}, Survey.{AllEndInBoot}}
+use Rattle.mc_explore.specs.{Pages.{Page}, Right.{AllEndRight, IsBytesOf, Wants, rights_by, rights_text}, Subject.{Subject}, Survey.{AllEndInBoot}}
 use Rattle.mc_explore.specs.{declared.expectation.Expectation.{Expectation}, declared.expectation.Wanted.{Wanted}, declared.rights.RightsOf.{RightsOf}}
 use Rattle.mc_flash.specs.Geometry.{Geometry}
-use Rattle.mc_image.specs.Valid.{Identity}
-use Rattle.mc_options.specs.{Arguments.{IsFlag}, declared.refusal.Refusal.{Refusal}}
+use Rattle.mc_image.specs.{Valid.{Identity}, declared.error.VersionError.{VersionError}}
+use Rattle.mc_options.specs.{Arguments.{GivesLayout, IsFlag}, Refusals.{HasText}, declared.refusal.Refusal.{Refusal}}
 use Rattle.mc_verdict.specs.{declared.verdict.Asked.{Asked}, declared.verdict.Ends.{Ends}}
 use Rattle.mc_explore.specs.declared.expectation.Wanted.TheVariants as wanted
 use Rattle.mc_options.specs.declared.refusal.Refusal.TheVariants as refusals
@@ -27,6 +27,16 @@ pub record GivesAsked (found : Found) (a : Asked) : Type 0 where
   pub all_right : IsFlag found (codes "all-right") a.all_right
   pub all_boot : IsFlag found (codes "all-boot") a.all_boot
 
+-- The text of an option is none of what a slot may hold.
+abbrev pub IsNotWanted : List ℕ → Type 0
+IsNotWanted text = (w : Wanted) → IsBytesOf w → Wants text w → ⊥
+
+abbrev pub LacksWanted : Found → List ℕ → Refusal → Type 0
+LacksWanted found name e = ((error : VersionError) × (e ≡ refusals.Version error)) × HasText found name IsNotWanted
+
+abbrev pub LacksEnds : Found → Refusal → Type 0
+LacksEnds found e = LacksWanted found (codes "expect-primary") e ⊎ LacksWanted found (codes "expect-secondary") e
+
 -- Something is asked of the slots.
 abbrev pub is_of_slots : Asked → Bool
 is_of_slots a = is_some a.ends.primary || is_some a.ends.secondary || a.all_right
@@ -38,6 +48,16 @@ is_any a = is_of_slots a || a.all_boot
 -- MCUboot swaps nothing where a slot has more sectors than the trailer has room for; the secondary has no more than the primary.
 abbrev pub NeverSwaps : Geometry → Type 0
 NeverSwaps g = g.max_sectors < g.primary
+
+-- A verdict is asked of a layout that never swaps.
+pub record NeverJudged (found : Found) (e : Refusal) : Type 0 where
+  pub asked : Asked
+  pub asked_given : GivesAsked found asked
+  pub any : is_any asked ≡ true
+  pub layout : Geometry
+  pub layout_given : GivesLayout found layout
+  pub never : NeverSwaps layout
+  pub refusal_is : e ≡ refusals.NeverSwaps
 
 -- What is wanted of a slot: what is known of it; else, where each row is to be right, the image that is to lie there at the end.
 abbrev pub wanted_of : Option Wanted → Bool → Option Identity → Option Wanted

@@ -6,7 +6,7 @@ ghost use Rattle.mc_verdict.specs.Requests.{AnswersCensus, ConcludesCensus, Refu
 ghost use Rattle.mc_explore.specs.Census.{census_by};
 ghost use Rattle.mc_explore.specs.declared.expectation.Expectation.{Expectation as Expected};
 ghost use Rattle.clap.specs.Matches.{found_of};
-ghost use Rattle.mc_verdict.specs.Sessions.{AreCounts, AreRightsIf, GivesWanted};
+ghost use Rattle.mc_verdict.specs.Sessions.{AreCounts, AreRightsIf, GivesWanted, LacksCensus};
 ghost use Rattle.mc_verdict.specs.Verdicts.{AreCounted, IsVerdict, is_of_slots};
 ghost use Rattle.mc_start.specs.Start.{begun};
 
@@ -80,6 +80,7 @@ pub fn read<X: Explorable, F: Files>(
 ) -> Result<Wanted<X::Choice>, Refusal>
     ensures given { IfOk result (GivesWanted X.IsChoice X.images_return (found_of arguments.now)) }
     ensures range { IfOk result (λ wanted. wanted.cuts ≤ 16) }
+    ensures refused { IfErr result (LacksCensus (found_of arguments.now)) }
 {
     let options = match flash_options(arguments) {
         Ok(options) => options,

@@ -6,7 +6,7 @@ ghost use Rattle.clap.specs.Matches.{found_of};
 ghost use Rattle.mc_explore.specs.Pages.{Page};
 ghost use Rattle.mc_explore.specs.Survey.{tally_by};
 ghost use Rattle.mc_explore.specs.declared.expectation.Expectation.{Expectation as Expected};
-ghost use Rattle.mc_verdict.specs.Sessions.{Explores, PrintsUntil, TalliesFor, TalliesUntil, GivesExploration, images_return, ends_of};
+ghost use Rattle.mc_verdict.specs.Sessions.{Explores, PrintsUntil, TalliesFor, TalliesUntil, GivesExploration, LacksExploration, images_return, ends_of};
 ghost use Rattle.mc_verdict.specs.PagesAsked.{AnswersPage, AnswersSurvey, IsUncounted, PrintBreaks};
 ghost use Rattle.mc_verdict.specs.Verdicts.{GivesAsked, AreCounted, IsExpectation, IsVerdict, is_of_slots, is_whole};
 ghost use Rattle.mc_boot.specs.Plan.{identity_of};
@@ -59,39 +59,6 @@ pub fn ends(images_return: bool, named: Option<(ImageId, ImageId)>) -> Option<(I
         Some((one, other)) if images_return => Some((other, one)),
         named => named,
     }
-}
-
-/// Reads the options, and the start that they give. The words are checked before a file is touched.
-///
-/// # Errors
-///
-/// `Source`, `Layout`, the numbers, `CursorOptions`, `Cursor`, `Schedule` and `Campaign` of the words; `NeverSwaps`; what `read_start`
-/// refuses.
-fn read<X: Explorable, F: Files>(
-    files: &F,
-    alloc: Global,
-    arguments: &ArgMatches<'_>,
-    asked: &Asked,
-) -> Result<Exploration<X::Choice, X::Cursor, X::Key>, Refusal>
-    ensures given { IfOk result (GivesExploration X.subject X.IsChoice X.images_return
-        (found_of arguments.now)) }
-    ensures range { IfOk result (λ e. (e.extent.cuts ≤ 16) × (1 ≤ e.extent.limit)) }
-{
-    let options = match flash_options(arguments) {
-        Ok(options) => options,
-        Err(refusal) => return Err(refusal),
-    };
-    let extent = explore_options(arguments)?;
-    let range = X::range(arguments)?;
-    asked.check(&options.layout)?;
-    let choice = X::chosen(arguments);
-    Ok(Exploration {
-        choice,
-        images_return: images_return::<X>(&options.source, choice),
-        extent,
-        range,
-        start: read_start(files, alloc, &options)?,
-    })
 }
 
 impl<C: Copy, U: Copy, K: Copy> Exploration<C, U, K> {
@@ -214,11 +181,12 @@ fn counts<'a, X: Explorable>(
     }
 }
 
-/// What the words ask of the rows, and the exploration that they ask for.
+/// What the words ask of the rows, and the exploration that they ask for. The words are checked before a file is touched.
 ///
 /// # Errors
 ///
-/// What refuses the words or their files.
+/// `Version`, `Source`, `Layout`, the numbers, `CursorOptions`, `Cursor`, `Schedule` and `Campaign` of the words; `NeverSwaps`; what
+/// `read_start` refuses.
 pub fn ask<X: Explorable, F: Files>(
     files: &F,
     alloc: Global,
@@ -229,9 +197,25 @@ pub fn ask<X: Explorable, F: Files>(
         (found_of arguments.now) given.1) }
     ensures range { IfOk result (λ given. (given.1.extent.cuts ≤ 16)
         × (1 ≤ given.1.extent.limit)) }
+    ensures refused { IfErr result (LacksExploration X.IsNoCursor X.IsNoKey (found_of
+        arguments.now)) }
 {
     let asked = Asked::read(arguments)?;
-    let exploration = read::<X, F>(files, alloc, arguments, &asked)?;
+    let options = match flash_options(arguments) {
+        Ok(options) => options,
+        Err(refusal) => return Err(refusal),
+    };
+    let extent = explore_options(arguments)?;
+    let range = X::range(arguments)?;
+    asked.check(&options.layout)?;
+    let choice = X::chosen(arguments);
+    let exploration = Exploration {
+        choice,
+        images_return: images_return::<X>(&options.source, choice),
+        extent,
+        range,
+        start: read_start(files, alloc, &options)?,
+    };
     Ok((asked, exploration))
 }
 

@@ -6,7 +6,7 @@ ghost use Rattle.mc_boot.specs.Plan.{identity_of};
 ghost use Rattle.mc_explore.specs.declared.expectation.Expectation.{Expectation as Expected};
 ghost use Rattle.mc_explore.specs.Right.{AllEndRight};
 ghost use Rattle.mc_output.specs.Text.{AppendsPrefix};
-ghost use Rattle.mc_verdict.specs.Verdicts.{AreCounted, IsExpectation, MayGiveWanted, GivesAsked, GivesEnds, expected_ends, is_any, is_of_slots, lines_of, NeverSwaps, verdict_of, wanted_of, wanted_or_any};
+ghost use Rattle.mc_verdict.specs.Verdicts.{AreCounted, IsExpectation, MayGiveWanted, GivesAsked, GivesEnds, LacksEnds, LacksWanted, expected_ends, is_any, is_of_slots, lines_of, NeverSwaps, verdict_of, wanted_of, wanted_or_any};
 
 use clap::ArgMatches;
 use mc_boot::ImageId;
@@ -40,7 +40,8 @@ pub struct Asked {
 ///
 /// `Version` where its text is no version, no digest and not `none`.
 fn wanted_option(arguments: &ArgMatches<'_>, name: &str) -> Result<Option<Wanted>, Refusal>
-    ensures { IfOk result (MayGiveWanted (found_of arguments.now) name.now) }
+    ensures given { IfOk result (MayGiveWanted (found_of arguments.now) name.now) }
+    ensures refused { IfErr result (LacksWanted (found_of arguments.now) name.now) }
 {
     match arguments.get_str(name) {
         Some(text) => Ok(Some(Wanted::read(text)?)),
@@ -78,7 +79,8 @@ impl Ends {
     ///
     /// Those of `wanted_option`.
     pub fn read(arguments: &ArgMatches<'_>) -> Result<Ends, Refusal>
-        ensures { IfOk result (GivesEnds (found_of arguments.now)) }
+        ensures given { IfOk result (GivesEnds (found_of arguments.now)) }
+        ensures refused { IfErr result (LacksEnds (found_of arguments.now)) }
     {
         Ok(Ends {
             primary: wanted_option(arguments, "expect-primary")?,
@@ -109,7 +111,8 @@ impl Asked {
     ///
     /// Those of `Ends::read`.
     pub fn read(arguments: &ArgMatches<'_>) -> Result<Asked, Refusal>
-        ensures { IfOk result (GivesAsked (found_of arguments.now)) }
+        ensures given { IfOk result (GivesAsked (found_of arguments.now)) }
+        ensures refused { IfErr result (LacksEnds (found_of arguments.now)) }
     {
         Ok(Asked {
             ends: Ends::read(arguments)?,

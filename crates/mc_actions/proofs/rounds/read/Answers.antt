@@ -1,10 +1,18 @@
 use Rattle.std.specs.Prelude.{List, Some, ℕ}
-use Rattle.std.proofs.Common.{ap, ◌∙◌}
+use Rattle.std.proofs.{Common.{ap, inl, inr, ◌∙◌}, lemmas.Result.{err_from_is_err_and}}
 use Rattle.mc_actions.proofs.rounds.read.Goals as goal
 
-pub returns : goal.returns
-returns g c = record {
-  start = record { options = c.in-Ok.options; given = c.in-Ok.ensures.given; made = c.in_ok-read_start.ensures };
+pub returns-clause-given : goal.returns-clause-given
+returns-clause-given g c = record {
+  start = record { options = c.in-Ok.options; given = c.in-Ok.ensures.given; made = c.in_ok-read_start.ensures.given };
   campaign = c.in_ok-required.ensures ∙ ap (λ (text : List ℕ). Some text) c.in_ok-campaign.ensures.exact;
   confirms = (c.get_flag.ensures.value, c.get_flag.ensures.other, c.get_flag.ensures.none);
 }
+
+pub returns-in-Err-clause-refused : goal.returns-in-Err-clause-refused
+returns-in-Err-clause-refused g c = inl c.in-Err.ensures.refused
+
+pub returns-in_err-read_start-clause-refused : goal.returns-in_err-read_start-clause-refused
+returns-in_err-read_start-clause-refused g c =
+    let p = err_from_is_err_and c.from_residual-in_err-read_start.result c.from_residual-in_err-read_start.ensures.1 in
+    rw (p.1, p.2) (inr (inr (inr c.in_err-read_start.ensures.refused)))

@@ -1,12 +1,18 @@
-use Rattle.std.proofs.Common.{refl}
+use Rattle.std.proofs.{Common.{inl, inr, refl}, lemmas.Result.{err_from_is_err_and}}
 use Rattle.mc_command.proofs.inspect.read.Goals as goal
 
-pub returns : goal.returns
-returns g c = record {
-  given = rw c.of_dump.ensures (record {
-    dump = record { layout = rw c.in_ok-start.ensures.layout c.in-Ok.ensures.layout; rules = rw c.in_ok-start.ensures.rules c.in-Ok.ensures.rules };
-    asked = c.in_ok-asked.ensures;
-    cuts = refl;
-    plain = refl;
-  });
-}
+pub returns-clause-given : goal.returns-clause-given
+returns-clause-given g c = rw c.of_dump.ensures (record {
+  dump = record { layout = rw c.in_ok-start.ensures.layout c.in-Ok.ensures.layout; rules = rw c.in_ok-start.ensures.rules c.in-Ok.ensures.rules };
+  asked = c.in_ok-asked.ensures.given;
+  cuts = refl;
+  plain = refl;
+})
+
+pub returns-in-Err-clause-refused : goal.returns-in-Err-clause-refused
+returns-in-Err-clause-refused g c = inl (inl c.in-Err.ensures.refused)
+
+pub returns-in_err-start-clause-refused : goal.returns-in_err-start-clause-refused
+returns-in_err-start-clause-refused g c =
+    let p = err_from_is_err_and c.from_residual-in_err-start.result c.from_residual-in_err-start.ensures.1 in
+    rw (p.1, p.2) (inr (inr c.in_err-start.ensures.refused))

@@ -1,4 +1,5 @@
-use Rattle.mc_options.proofs.GivenOptions.{no_version, not_ok}
+use Rattle.std.proofs.{Common.{inl, inr, refl}, lemmas.Result.{err_from_is_err_and}}
+use Rattle.mc_options.proofs.GivenOptions.{names_none, no_version, not_ok}
 use Rattle.clap.specs.Matches.{found_of}
 use Rattle.mc_options.proofs.options.create_options.Goals as goal
 
@@ -20,3 +21,13 @@ returns-in_err-read_required-2-clause-taken c = λ o given. absurd (not_ok (c.in
 
 pub returns-in_err-read-2-clause-taken : goal.returns-in_err-read-2-clause-taken
 returns-in_err-read-2-clause-taken c = λ o given. absurd (c.in_err-read-2.ensures.1 o.security_counter given.security_counter)
+
+pub returns-in_err-version-clause-refused : goal.returns-in_err-version-clause-refused
+returns-in_err-version-clause-refused c =
+    let p = err_from_is_err_and c.from_residual-in_err-version.result c.from_residual-in_err-version.ensures.1 in
+    rw (p.1, p.2) (inl (inl ((c.in_err-version.field-0.0, refl), (_, c.in_ok-required.ensures, names_none _ _ c.in_err-version.ensures.only))))
+
+pub returns-in_err-align-clause-refused : goal.returns-in_err-align-clause-refused
+returns-in_err-align-clause-refused c =
+    let p = err_from_is_err_and c.from_residual-in_err-align.result c.from_residual-in_err-align.ensures.1 in
+    rw (p.1, p.2) (inr (inr (inl c.in_err-align.ensures.refused)))

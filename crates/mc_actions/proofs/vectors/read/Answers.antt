@@ -1,0 +1,15 @@
+use Rattle.std.proofs.{Common.{inl, inr}, lemmas.Result.{err_from_is_err_and}}
+use Rattle.mc_actions.proofs.vectors.read.Goals as goal
+
+pub returns-in-Err-clause-refused : goal.returns-in-Err-clause-refused
+returns-in-Err-clause-refused g c = inl (inl c.in-Err.ensures.refused)
+
+pub returns-in_err-torn-clause-refused : goal.returns-in_err-torn-clause-refused
+returns-in_err-torn-clause-refused g c =
+    let p = err_from_is_err_and c.from_residual-in_err-torn.result c.from_residual-in_err-torn.ensures.1 in
+    rw (p.1, p.2) (inr (inl (inl c.in_err-torn.ensures.refused)))
+
+pub returns-in_err-folder-clause-refused : goal.returns-in_err-folder-clause-refused
+returns-in_err-folder-clause-refused g c =
+    let p = err_from_is_err_and c.from_residual-in_err-folder.result c.from_residual-in_err-folder.ensures.1 in
+    rw (p.1, p.2) (inr (inl (inr c.in_err-folder.ensures.refused)))

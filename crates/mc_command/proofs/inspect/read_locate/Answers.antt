@@ -1,0 +1,10 @@
+use Rattle.std.proofs.{Common.{inl, inr}, lemmas.Result.{err_from_is_err_and}}
+use Rattle.mc_command.proofs.inspect.read_locate.Goals as goal
+
+pub returns-in-Err-clause-refused : goal.returns-in-Err-clause-refused
+returns-in-Err-clause-refused g c = inl (inl c.in-Err.ensures.refused)
+
+pub returns-in_err-flash-clause-refused : goal.returns-in_err-flash-clause-refused
+returns-in_err-flash-clause-refused g c =
+    let p = err_from_is_err_and c.from_residual-in_err-flash.result c.from_residual-in_err-flash.ensures.1 in
+    rw (p.1, p.2) (inr (inr c.in_err-flash.ensures.refused))
