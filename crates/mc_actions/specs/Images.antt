@@ -56,8 +56,9 @@ AnswersNamed wanted false infile known before after end = AnswersInfile wanted i
 abbrev pub IsStandard : Bor (List ℕ) → Type 0
 IsStandard path = path.now ≡ codes "-"
 
--- The image goes to standard output, or nothing does.
+-- The image goes to standard output, or nothing does; and a payload is not written over.
 pub record AnswersCreate (c : Creation) (known before after : Option (List ℕ)) (end : End) : Type 0 where
   pub piped : IsStandard c.infile → IsStandard c.outfile → AnswersInput (created c.options) known before after end
   pub printed : IsStandard c.outfile → AnswersFile (created c.options) before after end
   pub written : (IsStandard c.outfile → ⊥) → after ≡ before
+  pub apart : (IsStandard c.infile → ⊥) → c.infile.now ≡ c.outfile.now → end ≡ Err refusals.SameFile

@@ -3,16 +3,17 @@ use Rattle.std.specs.{Prelude.{Bool, Err, List, Ok, Option, codes, false, is_som
 use Rattle.clap.specs.{Words.{first_value}, declared.parser.matches.Found.{Found}}
 use Rattle.mc_actions.specs.declared.life.Life.{Life}
 use Rattle.mc_life.specs.{Device.{Counts, OfWear, Standing}, Replay.{FailsLife, IsReplayed}, declared.life.LifeError.{LifeError}, declared.error.ScriptError.{ScriptError}}
-use Rattle.mc_options.specs.{Arguments.{GivesLayout, GivesRules, IsFlag}, Refusals.{IsLost, IsOfStart, LacksLayout, LacksRules}, Requests.{End}, declared.refusal.Refusal.{Refusal}}
+use Rattle.mc_options.specs.{Arguments.{GivesLayout, GivesRules, IsFlag, KeepsFiles}, Refusals.{IsLost, IsOfStart, LacksLayout, LacksRules}, Requests.{End}, declared.refusal.Refusal.{Refusal}}
 use Rattle.mc_options.specs.declared.refusal.Refusal.TheVariants as refusals
 use Rattle.mc_output.specs.Text.{AppendsPrefix}
 
--- The words give the layout and the rules of a device, and what follows its life.
+-- The words give the layout and the rules of a device, and what follows its life; and no file that is read is to be written.
 pub record GivesLife (found : Found) (l : Life) : Type 0 where
   pub layout : GivesLayout found l.start.geometry
   pub rules : GivesRules found l.start.rules
   pub wear : IsFlag found (codes "wear") l.wear
   pub out : option_map (λ path. path.now) l.out ≡ first_value found (codes "out")
+  pub kept : KeepsFiles found
 
 -- What a device is delivered with is given twice, or not at all; and why there is no life.
 abbrev pub LacksDevice : Found → Refusal → Type 0

@@ -7,17 +7,19 @@ use Rattle.mc_boot.specs.{Outcome.{Report, outcome_text}, Plan.{PowerOn}}
 use Rattle.mc_campaign.specs.{Campaigns.{AreReplayed, BeginsSecond, RefusesCampaign, in_round}, Rows.{Restarts}, Texts.{campaign_text}}
 use Rattle.mc_explore.specs.declared.replays.ReplayError.{ReplayError}
 use Rattle.mc_flash.specs.Flash.{Content}
-use Rattle.mc_options.specs.{Arguments.{IsFlag}, Refusals.{FailsCampaign, HasText, IsLost, IsOfStart, LacksFlash, LacksOption}, Requests.{End, IsAnswered, IsDone, IsUnwritten}, Sources.{GivesStart}}
+use Rattle.mc_options.specs.{Arguments.{IsFlag, KeepsFiles}, Refusals.{FailsCampaign, HasText, IsLost, IsOfStart, LacksFlash, LacksOption}, Requests.{End, IsAnswered, IsDone, IsUnwritten}, Sources.{GivesStart}}
 use Rattle.mc_options.specs.declared.refusal.Refusal.{Refusal}
 use Rattle.mc_options.specs.declared.refusal.Refusal.TheVariants as refusals
 use Rattle.mc_start.specs.Start.{begun}
 use Rattle.mc_trace.specs.{Sectors.{IsAt, picture}, Trace.{trace_text}, declared.error.TraceError.{TraceError}}
 
--- The words give a campaign, the start that it begins at, and whether the image confirms itself between the rounds.
+-- The words give a campaign, the start that it begins at, and whether the image confirms itself between the rounds; and no file that is read is
+-- to be written.
 pub record GivesCampaign (found : Found) (c : Campaigned) : Type 0 where
   pub start : GivesStart found c.start
   pub campaign : first_value found (codes "schedule") ≡ Some (campaign_text c.campaign)
   pub confirms : IsFlag found (codes "confirm") c.confirms
+  pub kept : KeepsFiles found
 
 abbrev pub LacksCampaign : Found → Refusal → Type 0
 LacksCampaign found e =

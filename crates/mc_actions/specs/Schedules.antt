@@ -5,7 +5,7 @@ use Rattle.mc_actions.specs.{declared.schedule.Outputs.{Outputs}, declared.sched
 use Rattle.mc_boot.specs.Outcome.{Report, outcome_text}
 use Rattle.mc_explore.specs.{Schedules.{CannotOccurAt, IsReplayed, RefusesReplay, Restarts}, declared.replays.ReplayError.{ReplayError}}
 use Rattle.mc_flash.specs.Flash.{Content}
-use Rattle.mc_options.specs.{Arguments.{MayGiveSchedule}, Refusals.{FailsSchedule, HasText, IsLost, IsOfStart, LacksFlash, LacksOption, LacksSpan, LacksView}, Requests.{End, IsAnswered, IsDone, IsUnwritten}, Sources.{GivesStart}}
+use Rattle.mc_options.specs.{Arguments.{KeepsFiles, MayGiveSchedule}, Refusals.{FailsSchedule, HasText, IsLost, IsOfStart, LacksFlash, LacksOption, LacksSpan, LacksView}, Requests.{End, IsAnswered, IsDone, IsUnwritten}, Sources.{GivesStart}}
 use Rattle.mc_options.specs.declared.refusal.Refusal.{Refusal}
 use Rattle.mc_options.specs.declared.refusal.Refusal.TheVariants as refusals
 use Rattle.mc_start.specs.Start.{begun, schedule_text}
@@ -13,14 +13,16 @@ use Rattle.mc_trace.specs.{Sectors.{IsAt, picture}, Trace.{trace_text}}
 use Rattle.mc_trace.specs.{declared.sectors.View.{View}, declared.trace.Span.{Span}}
 use Rattle.mc_trace.specs.declared.error.TraceError.TheVariants as errors
 
--- The words give a schedule and the start that it begins at; `boot` gives the schedule of no cut.
+-- The words give a schedule and the start that it begins at, and no file that is read is to be written; `boot` gives the schedule of no cut.
 pub record GivesScheduled (found : Found) (s : Scheduled) : Type 0 where
   pub start : GivesStart found s.start
   pub schedule : MayGiveSchedule found (codes "schedule") (Some s.schedule)
+  pub kept : KeepsFiles found
 
 pub record GivesBoot (found : Found) (s : Scheduled) : Type 0 where
   pub start : GivesStart found s.start
   pub schedule : codes "-" ≡ schedule_text s.schedule
+  pub kept : KeepsFiles found
 
 -- They give none, or no start, or one of their files is not to be lost; the text of a schedule is the one that is read.
 abbrev pub LacksFrom : List ℕ → Found → Refusal → Type 0

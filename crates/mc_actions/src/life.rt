@@ -4,7 +4,7 @@ ghost use Rattle.clap.specs.Matches.{found_of};
 ghost use Rattle.mc_actions.specs.Lives.{AnswersLife, GivesLife, IsOfDevice, IsOfScript, IsWearOut, LacksDevice, LacksLife, LacksShelf, StopsLife};
 ghost use Rattle.mc_life.specs.Device.{OfWear};
 ghost use Rattle.mc_life.specs.Replay.{IsReplayed};
-ghost use Rattle.mc_options.specs.Arguments.{GivesLayout, GivesRules};
+ghost use Rattle.mc_options.specs.Arguments.{GivesLayout, GivesRules, KeepsFiles};
 ghost use Rattle.mc_output.specs.Text.{AppendsPrefix};
 
 use crate::replay::write_file;
@@ -83,6 +83,7 @@ fn read_device<F: Files>(
 ) -> Result<Start, Refusal>
     ensures layout { IfOk result (λ start. GivesLayout (found_of arguments.now) start.geometry) }
     ensures rules { IfOk result (λ start. GivesRules (found_of arguments.now) start.rules) }
+    ensures kept { OnOk result (KeepsFiles (found_of arguments.now)) }
     ensures refused { IfErr result (LacksLife (found_of arguments.now)) }
 {
     let layout = layout_options(arguments)?;

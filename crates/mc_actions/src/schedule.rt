@@ -1,8 +1,9 @@
 //! A schedule of power cuts and the start that it begins at, as options give them.
-ghost use Rattle.std.specs.Prelude.{◌≡◌, IfErr, IfOk};
+ghost use Rattle.std.specs.Prelude.{◌≡◌, IfErr, IfOk, OnOk};
 ghost use Rattle.clap.specs.Matches.{found_of};
 ghost use Rattle.mc_actions.specs.Schedules.{GivesOutputs, GivesScheduled, LacksFrom, LacksScheduled};
 ghost use Rattle.mc_start.specs.Start.{schedule_text};
+ghost use Rattle.mc_options.specs.Arguments.{KeepsFiles};
 ghost use Rattle.mc_options.specs.Sources.{GivesStart};
 
 use clap::ArgMatches;
@@ -47,6 +48,7 @@ pub fn schedule_from<F: Files>(
 ) -> Result<Scheduled, Refusal>
     ensures start { IfOk result (λ t. GivesStart (found_of arguments.now) t.start) }
     ensures schedule { IfOk result (λ t. schedule.now ≡ schedule_text t.schedule) }
+    ensures kept { OnOk result (KeepsFiles (found_of arguments.now)) }
     ensures refused { IfErr result (LacksFrom schedule.now (found_of arguments.now)) }
 {
     let options = match flash_options(arguments) {

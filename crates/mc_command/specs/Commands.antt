@@ -21,7 +21,7 @@ use Rattle.mc_options.specs.{Arguments.{GivesLayout, GivesSpan, GivesView, IsFla
 use Rattle.mc_options.specs.Refusals.{ConfirmsAlone, IsNoCampaign, IsNoSchedule, LacksSpan, LacksStart, LacksView}
 use Rattle.mc_options.specs.declared.refusal.Refusal.TheVariants as refusals
 use Rattle.mc_options.specs.declared.options.ExploreOptions.{ExploreOptions}
-use Rattle.mc_verdict.specs.{PagesAsked.{AnswersPage, AnswersSurvey}, Requests.{AnswersCensus}, Sessions.{GivesExploration, GivesWanted, IsNoCampaignCursor, IsNoCursor, LacksCensus, LacksExploration, is_left_alone}, Verdicts.{GivesAsked, GivesEnds}}
+use Rattle.mc_verdict.specs.{PagesAsked.{AnswersPage, AnswersSurvey}, Requests.{AnswersCensus}, Sessions.{GivesExploration, GivesWanted, IsNoCampaignCursor, IsNoCursor, LacksCensus, LacksExploration, is_left_alone}, Verdicts.{GivesEnds}}
 
 -- The words ask for two rounds.
 abbrev pub AsksTwo : Found → Type 0
@@ -54,12 +54,12 @@ Asks name found (requests.Tears t) = (name ≡ codes "tears") × GivesTears foun
 Asks name found (requests.Vectors v) = (name ≡ codes "vectors") × GivesVectors found v
 Asks name found (requests.Inspect i) = (name ≡ codes "inspect") × GivesInspect found i
 Asks name found (requests.Locate l) = (name ≡ codes "locate") × GivesDump found l.flash
-Asks name found (requests.Explore a e) = (name ≡ codes "explore") × GivesAsked found a × GivesExploration subject NoChoice (λ _ _. false) found e
-Asks name found (requests.Campaigns a e) = (name ≡ codes "campaign") × GivesAsked found a × GivesExploration campaigns Confirms is_left_alone found e
+Asks name found (requests.Explore a e) = (name ≡ codes "explore") × GivesExploration subject NoChoice (λ _ _. false) found a e
+Asks name found (requests.Campaigns a e) = (name ≡ codes "campaign") × GivesExploration campaigns Confirms is_left_alone found a e
 Asks name found (requests.Survey a e) =
-    (name ≡ codes "survey") × (AsksTwo found → ⊥) × GivesAsked found a × GivesExploration subject NoChoice (λ _ _. false) found e
+    (name ≡ codes "survey") × (AsksTwo found → ⊥) × GivesExploration subject NoChoice (λ _ _. false) found a e
 Asks name found (requests.CampaignSurvey a e) =
-    (name ≡ codes "survey") × AsksTwo found × GivesAsked found a × GivesExploration campaigns Confirms is_left_alone found e
+    (name ≡ codes "survey") × AsksTwo found × GivesExploration campaigns Confirms is_left_alone found a e
 Asks name found (requests.Census w) = (name ≡ codes "census") × (AsksTwo found → ⊥) × GivesWanted NoChoice (λ _ _. false) found w
 Asks name found (requests.CampaignCensus w) = (name ≡ codes "census") × AsksTwo found × GivesWanted Confirms is_left_alone found w
 

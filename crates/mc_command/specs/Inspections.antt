@@ -13,7 +13,7 @@ use Rattle.mc_trace.specs.Inspection.{inspection_text}
 use Rattle.mc_trace.specs.declared.error.TraceError.TheVariants as errors
 use Rattle.mc_trailer.specs.declared.tables.Rules.{Rules}
 use Rattle.mc_vectors.specs.{Cases.{AtMost}, Locating.{IsNearest, located_text}}
-use Rattle.mc_verdict.specs.{Requests.{CensusAsked, EndsCensus, RefusesCensus, counts_text}, Verdicts.{GivesAsked, LacksEnds, NeverJudged}}
+use Rattle.mc_verdict.specs.{Requests.{CensusAsked, EndsCensus, RefusesCensus, counts_text}, Verdicts.{GivesAsked, IsJudged, LacksEnds, NeverJudged}}
 use Rattle.mc_command.specs.{declared.inspect.Found.{Found}, declared.inspect.Images.{Images}, declared.inspect.Inspected.{Inspected}, declared.inspect.LocateAsked.{LocateAsked}}
 
 -- The image in the primary at the start of a swap of that kind, and the one in the secondary: a revert takes the test of b back.
@@ -47,6 +47,7 @@ pub record GivesDump (words : Words) (s : Started) : Type 0 where
 pub record GivesInspect (words : Words) (i : Inspected) : Type 0 where
   pub dump : GivesDump words i.wanted.start
   pub asked : GivesAsked words i.wanted.asked
+  pub judged : IsJudged i.wanted.asked i.wanted.start.geometry
   pub cuts : i.wanted.cuts ≡ 16
   pub plain : i.wanted.images_return ≡ false
 

@@ -6,8 +6,8 @@ use Rattle.mc_boot.specs.{Outcome.{after}, Plan.{again}}
 use Rattle.mc_command.specs.{declared.tears.CaseFile.{CaseFile}, declared.tears.TearsAsked.{TearsAsked}}
 use Rattle.mc_explore.specs.{Schedules.{RefusesReplay}, declared.expectation.Expectation.{Expectation}, declared.replays.ReplayError.{ReplayError}}
 use Rattle.mc_explore.specs.declared.error.ExploreError.TheVariants as errors
-use Rattle.mc_flash.specs.Flash.{Content}
-use Rattle.mc_options.specs.{Arguments.{IsFlag}, Numbers.{GivesNumber}, Refusals.{GivesOne, HasText, LacksLayout, LacksNumber}, Requests.{End, IsAnswered, IsUnwritten}, declared.refusal.Refusal.{Refusal}}
+use Rattle.mc_flash.specs.{Flash.{Content}, Geometry.{Geometry}}
+use Rattle.mc_options.specs.{Arguments.{GivesLayout, IsFlag}, Numbers.{GivesNumber}, Refusals.{GivesOne, HasText, LacksLayout, LacksNumber}, Requests.{End, IsAnswered, IsUnwritten}, declared.refusal.Refusal.{Refusal}}
 use Rattle.mc_options.specs.declared.numbers.NumberOption.TheVariants as numbers
 use Rattle.mc_options.specs.declared.refusal.Refusal.TheVariants as refusals
 use Rattle.mc_start.specs.Start.{Started, begun}
@@ -15,7 +15,7 @@ use Rattle.mc_tear.specs.{Readings.{reading_of, reading_text}, declared.torn.Era
 use Rattle.mc_tear.specs.declared.torn.Erasing.TheVariants as erasings
 use Rattle.mc_tears.specs.{Tears.{all_right, tears_text}, declared.error.TearError.{TearError}}
 use Rattle.mc_tears.specs.declared.error.TearError.TheVariants as tear_errors
-use Rattle.mc_verdict.specs.{Sessions.{or_any}, Verdicts.{GivesAsked, IsExpectation, LacksEnds, NeverJudged, is_of_slots, verdict_of}, declared.verdict.Asked.{Asked}}
+use Rattle.mc_verdict.specs.{Sessions.{or_any}, Verdicts.{GivesAsked, IsExpectation, IsJudged, LacksEnds, NeverJudged, is_of_slots, verdict_of}, declared.verdict.Asked.{Asked}}
 use Rattle.std.specs.Prelude.{Ok}
 
 -- The words say how an erase fails: gently, where they do not.
@@ -45,7 +45,10 @@ pub record StartsAfter (found : Found) (asked : Asked) (s : Started) (e : Expect
   pub expectation_is : e ≡ or_any expected
 
 pub record GivesTears (found : Found) (t : TearsAsked) : Type 0 where
+  pub layout : Geometry
+  pub layout_given : GivesLayout found layout
   pub asked : GivesAsked found t.asked
+  pub judged : IsJudged t.asked layout
   pub erasing : GivesErasing found t.torn.erasing
   pub all : IsFlag found (codes "all") t.torn.all
   pub file : GivesCase found t.file

@@ -14,7 +14,7 @@ use Rattle.mc_start.specs.{Cursor.{IsCursor, cursor_text}, Start.{begun}, declar
 use Rattle.mc_campaign.specs.declared.cursor.CampaignCursor.{CampaignCursor}
 use Rattle.mc_campaign.specs.Texts as campaigns
 use Rattle.mc_options.specs.{Arguments.{GivesExtent, GivesFlash, GivesRange}, Numbers.{GivesNumber}, Refusals.{IsOfStart, LacksExtent, LacksFlash, LacksRange, LacksRequired}, Sources.{IsStartOf}}
-use Rattle.mc_verdict.specs.{Verdicts.{IsExpectation, GivesAsked, LacksEnds, NeverJudged}, declared.census.Counts.{Counts}, declared.census.Wanted.{Wanted}}
+use Rattle.mc_verdict.specs.{Verdicts.{IsExpectation, GivesAsked, IsJudged, LacksEnds, NeverJudged}, declared.verdict.Asked.{Asked}, declared.census.Counts.{Counts}, declared.census.Wanted.{Wanted}}
 use Rattle.mc_verdict.specs.declared.explore.Exploration.{Exploration}
 use Rattle.mc_options.specs.declared.numbers.NumberOption.TheVariants as numbers
 use Rattle.mc_options.specs.{declared.options.FlashOptions.{FlashOptions}, declared.options.Source.{Source}}
@@ -44,8 +44,9 @@ ends_of false (Some (one, other)) = Some (one, other)
 abbrev pub or_any : Option Expectation → Expectation
 or_any e = unwrap_or e (record { primary = wanted.Anything; secondary = wanted.Anything })
 
--- The arguments give an exploration: its start, what is chosen, how far it goes, and which rows it gives.
-pub record GivesExploration {C K R U : Type 0} (x : Subject C K R U) (IsChoice : Found → C → Type 0) (returns : Kind → C → Bool) (found : Found) (e : Exploration C U K) : Type 0 where
+-- The arguments give an exploration: its start, what is chosen, how far it goes, which rows it gives, and what is asked of them, of a layout
+-- that swaps.
+pub record GivesExploration {C K R U : Type 0} (x : Subject C K R U) (IsChoice : Found → C → Type 0) (returns : Kind → C → Bool) (found : Found) (a : Asked) (e : Exploration C U K) : Type 0 where
   pub options : FlashOptions
   pub options_given : GivesFlash found options
   pub start : IsStartOf options e.start
@@ -53,6 +54,8 @@ pub record GivesExploration {C K R U : Type 0} (x : Subject C K R U) (IsChoice :
   pub images_return : e.images_return ≡ images_return returns options.source e.choice
   pub extent : GivesExtent found e.extent
   pub range : GivesRange x.cursor_text x.key_text found e.range
+  pub asked : GivesAsked found a
+  pub judged : IsJudged a options.layout
 
 -- A text is that of no cursor.
 abbrev pub IsNoCursor : List ℕ → Type 0
@@ -110,7 +113,7 @@ module _ {C K R U : Type 0} (x : Subject C K R U) (fields : U → Fields C K) wh
     pub new : State C K
     pub out : ShownIsOut (rows_of x) e.range.until explorer.state new e.extent.limit before after
 
--- The arguments give a census: its start, what is chosen, the most cuts, and what is asked of the rows.
+-- The arguments give a census: its start, what is chosen, the most cuts, and what is asked of the rows, of a layout that swaps.
 pub record GivesWanted {C : Type 0} (IsChoice : Found → C → Type 0) (returns : Kind → C → Bool) (found : Found) (w : Wanted C) : Type 0 where
   pub options : FlashOptions
   pub options_given : GivesFlash found options
@@ -119,6 +122,7 @@ pub record GivesWanted {C : Type 0} (IsChoice : Found → C → Type 0) (returns
   pub images_return : w.images_return ≡ images_return returns options.source w.choice
   pub cuts : GivesNumber found numbers.Cuts w.cuts
   pub asked : GivesAsked found w.asked
+  pub judged : IsJudged w.asked options.layout
 
 module _ {C K R U : Type 0} (x : Subject C K R U) where
   -- What of the rows of a start is right, where that is asked.

@@ -49,7 +49,10 @@ is_any a = is_of_slots a || a.all_boot
 abbrev pub NeverSwaps : Geometry → Type 0
 NeverSwaps g = g.max_sectors < g.primary
 
--- A verdict is asked of a layout that never swaps.
+-- A verdict is asked of no layout that never swaps; or of one.
+abbrev pub IsJudged : Asked → Geometry → Type 0
+IsJudged a g = is_any a ≡ true → NeverSwaps g → ⊥
+
 pub record NeverJudged (found : Found) (e : Refusal) : Type 0 where
   pub asked : Asked
   pub asked_given : GivesAsked found asked

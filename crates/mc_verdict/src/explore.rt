@@ -8,7 +8,7 @@ ghost use Rattle.mc_explore.specs.Survey.{tally_by};
 ghost use Rattle.mc_explore.specs.declared.expectation.Expectation.{Expectation as Expected};
 ghost use Rattle.mc_verdict.specs.Sessions.{Explores, PrintsUntil, TalliesFor, TalliesUntil, GivesExploration, LacksExploration, images_return, ends_of};
 ghost use Rattle.mc_verdict.specs.PagesAsked.{AnswersPage, AnswersSurvey, IsUncounted, PrintBreaks};
-ghost use Rattle.mc_verdict.specs.Verdicts.{GivesAsked, AreCounted, IsExpectation, IsVerdict, is_of_slots, is_whole};
+ghost use Rattle.mc_verdict.specs.Verdicts.{AreCounted, IsExpectation, IsVerdict, is_of_slots, is_whole};
 ghost use Rattle.mc_boot.specs.Plan.{identity_of};
 
 use crate::explorable::Explorable;
@@ -192,9 +192,8 @@ pub fn ask<X: Explorable, F: Files>(
     alloc: Global,
     arguments: &ArgMatches<'_>,
 ) -> Result<(Asked, Exploration<X::Choice, X::Cursor, X::Key>), Refusal>
-    ensures asked { IfOk result (λ given. GivesAsked (found_of arguments.now) given.0) }
     ensures given { IfOk result (λ given. GivesExploration X.subject X.IsChoice X.images_return
-        (found_of arguments.now) given.1) }
+        (found_of arguments.now) given.0 given.1) }
     ensures range { IfOk result (λ given. (given.1.extent.cuts ≤ 16)
         × (1 ≤ given.1.extent.limit)) }
     ensures refused { IfErr result (LacksExploration X.IsNoCursor X.IsNoKey (found_of

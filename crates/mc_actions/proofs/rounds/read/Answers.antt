@@ -7,6 +7,7 @@ returns-clause-given g c = record {
   start = record { options = c.in-Ok.options; given = c.in-Ok.ensures.given; made = c.in_ok-read_start.ensures.given };
   campaign = c.in_ok-required.ensures ∙ ap (λ (text : List ℕ). Some text) c.in_ok-campaign.ensures.exact;
   confirms = (c.get_flag.ensures.value, c.get_flag.ensures.other, c.get_flag.ensures.none);
+  kept = c.in_ok-check_outputs.ensures.kept;
 }
 
 pub returns-in-Err-clause-refused : goal.returns-in-Err-clause-refused

@@ -1,10 +1,12 @@
 use Rattle.std.proofs.{Common.{inl, inr, refl}, lemmas.Result.{err_from_is_err_and}}
+use Rattle.mc_verdict.proofs.Asking.{not_refused}
 use Rattle.mc_command.proofs.inspect.read.Goals as goal
 
 pub returns-clause-given : goal.returns-clause-given
 returns-clause-given g c = rw c.of_dump.ensures (record {
   dump = record { layout = rw c.in_ok-start.ensures.layout c.in-Ok.ensures.layout; rules = rw c.in_ok-start.ensures.rules c.in-Ok.ensures.rules };
   asked = c.in_ok-asked.ensures.given;
+  judged = rw c.in_ok-start.ensures.layout (λ any never. not_refused _ _ (c.in_ok-check.ensures.refused.1 (any, never)));
   cuts = refl;
   plain = refl;
 })

@@ -1,8 +1,12 @@
 use Rattle.std.proofs.{Common.{inl, inr}, lemmas.Result.{err_from_is_err_and}}
+use Rattle.mc_verdict.proofs.Asking.{not_refused}
 use Rattle.mc_command.proofs.tears.read.Goals as goal
 
 pub returns-clause-given : goal.returns-clause-given
 returns-clause-given g c = record {
+  layout = c.in_ok-layout.layout;
+  layout_given = c.in_ok-layout.ensures.given;
+  judged = λ any never. not_refused _ _ (c.in_ok-check.ensures.refused.1 (any, never));
   asked = c.in_ok-asked.ensures.given;
   erasing = c.in_ok-erasing.ensures.given;
   all = (c.get_flag.ensures.value, c.get_flag.ensures.other, c.get_flag.ensures.none);

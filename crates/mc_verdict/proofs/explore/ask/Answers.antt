@@ -1,4 +1,5 @@
 use Rattle.std.proofs.{Common.{inl, inr}, lemmas.Result.{err_from_is_err_and}}
+use Rattle.mc_verdict.proofs.Asking.{not_refused}
 use Rattle.mc_verdict.proofs.explore.ask.Goals as goal
 
 pub returns-in-Err-clause-refused : goal.returns-in-Err-clause-refused
@@ -18,3 +19,16 @@ pub returns-in_err-read_start-clause-refused : goal.returns-in_err-read_start-cl
 returns-in_err-read_start-clause-refused g c =
     let p = err_from_is_err_and c.from_residual-in_err-read_start.result c.from_residual-in_err-read_start.ensures.1 in
     rw (p.1, p.2) (inr (inr c.in_err-read_start.ensures.refused))
+
+pub returns-clause-given : goal.returns-clause-given
+returns-clause-given g c = record {
+  options = c.in-Ok.options;
+  options_given = c.in-Ok.ensures.given;
+  start = c.in_ok-read_start.ensures.given;
+  choice = c.chosen-choice.ensures;
+  images_return = c.images_return.ensures;
+  extent = c.in_ok-extent.ensures.given;
+  range = c.in_ok-range.ensures.given;
+  asked = c.in_ok-asked.ensures.given;
+  judged = λ any never. not_refused _ _ (c.in_ok-check.ensures.refused.1 (any, never));
+}
