@@ -1,1 +1,2 @@
 mod Showing
+mod Shelving

@@ -1,5 +1,5 @@
 -- What is shown of schedules and of campaigns, and what breaks it.
-use Rattle.std.specs.{Io.KnownBytes.{Appends}, Prelude.{Bool, Err, IfErr, IfOk, List, MatchResult, Ok, OnErr, OnOk, Option, Result, codes, false, is_ok, true, ℕ}, Result.{IsErrAnd}}
+use Rattle.std.specs.{Io.KnownBytes.{Appends}, Prelude.{Bool, Err, IfErr, IfOk, IfSome, List, MatchResult, None, Ok, OnErr, OnOk, Option, Result, Some, codes, false, is_ok, true, ℕ}, Result.{IsErrAnd}}
 use Rattle.std.proofs.{Common.{◌≡◌, ap, inl, inr, refl, subst, sym, ◌∙◌}, lemmas.Result.{err_from_is_err_and}}
 use Rattle.std.proofs.KnownBytes.{Appends-nil, Appends-trans}
 use Rattle.mc_actions.specs.{Images.{AnswersInput}, Rounds.{AnswersShown, BeginsBoth, IsRoundText, IsShowingBroken, RoundsShown}, Schedules.{AnswersSectors}}
@@ -10,6 +10,7 @@ use Rattle.mc_campaign.specs.Campaigns.{AreReplayed, BeginsSecond, in_round}
 use Rattle.mc_explore.specs.Schedules.{IsReplayed}
 use Rattle.mc_flash.specs.Flash.{Content}
 use Rattle.mc_imgtool.specs.{Engines.{Answers}, declared.error.ToolError.{ToolError}}
+use Rattle.mc_imgtool.specs.declared.error.ToolError.TheVariants as tool
 use Rattle.mc_options.proofs.Begun.{first_begun, then_begun}
 use Rattle.mc_options.specs.{Requests.{End}, declared.refusal.Refusal.{Refusal}}
 use Rattle.mc_options.specs.declared.refusal.Refusal.TheVariants as refusals
@@ -157,3 +158,21 @@ pub by_tool : (wanted : List ℕ → Result (List ℕ) ToolError) (known before 
 by_tool wanted known before after (Ok done) m answers made = record { result = Ok done; answers = answers; end_is = made }
 by_tool wanted known before after (Err e) m answers made =
     let d = err_from_is_err_and m made in record { result = Err e; answers = answers; end_is = d.1 ∙ ap (λ (z : Refusal). Err z) d.2 }
+
+-- What is answered of some bytes is answered of an input of which it is not known that it holds others.
+answered_unknown : (wanted : List ℕ → Result (List ℕ) ToolError) (bytes : List ℕ) (old new : Option (List ℕ)) (r : Result (Unit {0}) ToolError)
+    → Answers wanted (Some bytes) old new r → Answers wanted None old new r
+answered_unknown wanted bytes old new (Ok done) a = tt
+answered_unknown wanted bytes old new (Err tool.Read) a = a
+answered_unknown wanted bytes old new (Err tool.Memory) a = a
+answered_unknown wanted bytes old new (Err tool.Write) a = tt
+answered_unknown wanted bytes old new (Err (tool.Image e)) a = (tt, a.1)
+answered_unknown wanted bytes old new (Err tool.NotZeros) a = (tt, a.1)
+answered_unknown wanted bytes old new (Err tool.SlotTooSmall) a = (tt, a.1)
+answered_unknown wanted bytes old new (Err tool.NeedsSlotSize) a = (tt, a.1)
+answered_unknown wanted bytes old new (Err tool.InputTooLong) a = (tt, a.1)
+
+pub known_from : (wanted : List ℕ → Result (List ℕ) ToolError) (bytes : List ℕ) (known before after : Option (List ℕ)) (m : End) → IfSome known (λ xs. bytes ≡ xs)
+    → AnswersInput wanted (Some bytes) before after m → AnswersInput wanted known before after m
+known_from wanted bytes None before after m read a = record { result = a.result; answers = answered_unknown wanted bytes before after a.result a.answers; end_is = a.end_is }
+known_from wanted bytes (Some xs) before after m read a = subst (λ (ys : List ℕ). AnswersInput wanted (Some ys) before after m) read a

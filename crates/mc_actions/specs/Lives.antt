@@ -1,38 +1,98 @@
 -- What is asked of a device's life, and what answers it.
-use Rattle.std.specs.{Prelude.{Bool, Err, List, Ok, Option, codes, false, is_some, option_map, true, ℕ, ◌≡◌, ◌⊎◌}, Borrow.{Bor}, Io.KnownBytes.{Appends}}
+use Rattle.std.specs.{Prelude.{All, Bool, Err, List, None, Ok, Option, Result, Some, codes, false, is_some, option_map, replicate, true, ℕ, ◌++◌, ◌^◌, ◌≡◌, ◌⊎◌}, Borrow.{Bor}, Io.KnownBytes.{Appends, Keeps}}
 use Rattle.clap.specs.{Words.{first_value}, declared.parser.matches.Found.{Found}}
-use Rattle.mc_actions.specs.declared.life.Life.{Life}
-use Rattle.mc_life.specs.{Device.{Counts, OfWear, Standing}, Replay.{FailsLife, IsReplayed}, declared.life.LifeError.{LifeError}, declared.error.ScriptError.{ScriptError}}
-use Rattle.mc_options.specs.{Arguments.{GivesLayout, GivesRules, IsFlag, KeepsFiles}, Refusals.{IsLost, IsOfStart, LacksLayout, LacksRules}, Requests.{End}, declared.refusal.Refusal.{Refusal}}
+use Rattle.mc_actions.specs.{Schedules.{IsFlashUnwritten}, declared.life.Life.{Life}}
+use Rattle.mc_boot.specs.declared.kind.Kind.TheVariants as starts
+use Rattle.mc_cli.specs.Files.{Holds}
+use Rattle.mc_flash.specs.{Flash.{Content, size_of}, Geometry.{Geometry}, declared.op.Slot.TheVariants.{Secondary}}
+use Rattle.mc_life.specs.{Device.{Counts, OfWear, Standing}, Replay.{FailsLife, IsReplayed}, Script.{Named, Names, Reads as ReadsScript, file_of, sayings}, declared.life.LifeError.{LifeError}, declared.error.ScriptError.{ScriptError}}
+use Rattle.mc_options.specs.{Arguments.{GivesLayout, GivesRules, IsFlag, KeepsFiles}, Refusals.{HasText, IsLost, LacksLayout, LacksRules}, Requests.{End}, Sources.{Reads, RefusesFile}, declared.refusal.Refusal.{Refusal}}
 use Rattle.mc_options.specs.declared.refusal.Refusal.TheVariants as refusals
 use Rattle.mc_output.specs.Text.{AppendsPrefix}
+use Rattle.mc_start.specs.{Start.{Started, Starts, of_flash}, declared.start.StartError.{StartError}}
 
--- The words give the layout and the rules of a device, and what follows its life; and no file that is read is to be written.
-pub record GivesLife (found : Found) (l : Life) : Type 0 where
+-- A device is delivered with a flash, or with an image in the primary, all else blank.
+abbrev pub IsFlashed : Holds → Geometry → List ℕ → Content → Type 0
+IsFlashed holds g path content = (bytes : List ℕ) × Reads (holds path) (2 ^ 25) bytes × (of_flash g bytes ≡ Ok content)
+
+abbrev pub HoldsAlone : Geometry → List ℕ → Content → Type 0
+HoldsAlone g image content =
+    (images : Started) × Starts g starts.None image image (Ok images)
+    × (of_flash g (images.content.primary ++ replicate (size_of g Secondary) 255) ≡ Ok content)
+
+abbrev pub IsDelivered : Holds → Geometry → List ℕ → Content → Type 0
+IsDelivered holds g path content = (image : List ℕ) × Reads (holds path) (2 ^ 24) image × HoldsAlone g image content
+
+abbrev pub GivesDevice : Holds → Found → Geometry → Content → Type 0
+GivesDevice holds found g content =
+    HasText found (codes "flash") (λ path. IsFlashed holds g path content) ⊎ HasText found (codes "image") (λ path. IsDelivered holds g path content)
+
+-- What is read of the script: of its file, or of standard input.
+abbrev pub IsPiped : Found → Type 0
+IsPiped found = (first_value found (codes "SCRIPT") ≡ None) ⊎ (first_value found (codes "SCRIPT") ≡ Some (codes "-"))
+
+abbrev pub GivesScript : Holds → Option (List ℕ) → Found → Result (List ℕ) ScriptError → Type 0
+GivesScript holds input found read =
+    (IsPiped found × ReadsScript input read)
+    ⊎ HasText found (codes "SCRIPT") (λ path. (known : Option (List ℕ)) × Keeps (holds path) known × ReadsScript known read)
+
+-- The files that a script names: of each there is what is read of it, and none is left out of which it is known what it holds.
+abbrev pub AreRead : Holds → List Named → Type 0
+AreRead holds shelf = All (λ (f : Named). Reads (holds f.name) (2 ^ 24) f.bytes) shelf
+
+abbrev pub IsShelved : Holds → List Named → List ℕ → Type 0
+IsShelved holds shelf name = file_of shelf name ≡ None → holds name ≡ None
+
+abbrev pub IsShelfOf : Holds → List ℕ → List Named → Type 0
+IsShelfOf holds script shelf =
+    AreRead holds shelf × (names : List (List ℕ)) × Names (sayings script) names × All (IsShelved holds shelf) names
+
+-- A file of a name is added, if it is not there yet, and can be opened.
+pub record AddsFile (holds : Holds) (name : List ℕ) (old new : List Named) : Type 0 where
+  pub read : AreRead holds old → AreRead holds new
+  pub kept : (other : List ℕ) → IsShelved holds old other → IsShelved holds new other
+  pub shelved : IsShelved holds new name
+
+-- The words give the layout and the rules of a device, what it is delivered with, its script, and what follows its life; and no image and no script
+-- is to be written over.
+pub record GivesLife (holds : Holds) (input : Option (List ℕ)) (found : Found) (l : Life) : Type 0 where
   pub layout : GivesLayout found l.start.geometry
   pub rules : GivesRules found l.start.rules
+  pub device : GivesDevice holds found l.start.geometry l.start.content
+  pub script : GivesScript holds input found (Ok l.script)
+  pub shelf : IsShelfOf holds l.script l.shelf.items
   pub wear : IsFlag found (codes "wear") l.wear
   pub out : option_map (λ path. path.now) l.out ≡ first_value found (codes "out")
   pub kept : KeepsFiles found
 
--- What a device is delivered with is given twice, or not at all; and why there is no life.
+-- What a device is delivered with is given twice, or not at all; or it is not read, or makes no start, or an allocation failed.
 abbrev pub LacksDevice : Found → Refusal → Type 0
 LacksDevice found e = (e ≡ refusals.Device) × (is_some (first_value found (codes "flash")) ≡ is_some (first_value found (codes "image")))
 
 abbrev pub IsOfDevice : Refusal → Type 0
-IsOfDevice e = IsOfStart e ⊎ (e ≡ refusals.Memory)
+IsOfDevice e = ((error : StartError) × (e ≡ refusals.Start error)) ⊎ (e ≡ refusals.Memory)
 
--- A script is not read; or it names the file that is to be written.
-abbrev pub IsOfScript : Refusal → Type 0
-IsOfScript e = IsOfDevice e ⊎ ((error : ScriptError) × (e ≡ refusals.Script error))
+abbrev pub FailsDevice : Holds → Found → Refusal → Type 0
+FailsDevice holds found e =
+    (HasText found (codes "flash") (λ path. RefusesFile (holds path) (2 ^ 25) e) ⊎ HasText found (codes "image") (λ path. RefusesFile (holds path) (2 ^ 24) e))
+    ⊎ IsOfDevice e
 
-abbrev pub LacksShelf : Option (Bor (List ℕ)) → Refusal → Type 0
-LacksShelf out e = IsOfDevice e ⊎ ((e ≡ refusals.SameFile) × (is_some out ≡ true))
+-- A script is not read; or a file that it names, which can be opened, or it is the file that is to be written; or an allocation failed.
+abbrev pub FailsScript : Holds → Option (List ℕ) → Found → Refusal → Type 0
+FailsScript holds input found e =
+    ((e ≡ refusals.Open) × HasText found (codes "SCRIPT") (λ path. holds path ≡ None))
+    ⊎ ((error : ScriptError) × (e ≡ refusals.Script error) × GivesScript holds input found (Err error))
 
-abbrev pub LacksLife : Found → Refusal → Type 0
-LacksLife found e =
+abbrev pub LacksFile : Holds → Refusal → Type 0
+LacksFile holds e = ((name : List ℕ) × RefusesFile (holds name) (2 ^ 24) e) ⊎ (e ≡ refusals.Memory)
+
+abbrev pub LacksShelf : Holds → Option (Bor (List ℕ)) → Refusal → Type 0
+LacksShelf holds out e = LacksFile holds e ⊎ ((e ≡ refusals.SameFile) × (is_some out ≡ true))
+
+abbrev pub LacksLife : Holds → Option (List ℕ) → Found → Refusal → Type 0
+LacksLife holds input found e =
     (LacksLayout found e ⊎ LacksRules found e)
-    ⊎ ((IsLost found e ⊎ LacksDevice found e) ⊎ IsOfScript e)
+    ⊎ ((IsLost found e ⊎ (LacksDevice found e ⊎ FailsDevice holds found e)) ⊎ (FailsScript holds input found e ⊎ LacksFile holds e))
 
 -- What was erased is out, where that is asked for.
 abbrev pub IsWearOut : Bool → Counts → Option (List ℕ) → Option (List ℕ) → Type 0
@@ -43,12 +103,16 @@ IsWearOut false w before after = after ≡ before
 abbrev pub StopsLife : Life → Option (List ℕ) → Option (List ℕ) → Refusal → Type 0
 StopsLife l before after e = (error : LifeError) × (e ≡ refusals.Life error) × FailsLife l.shelf.items l.start l.script before after error
 
+-- Its flash is written where a file is named for it; or that fails.
+abbrev pub IsLifeWritten : Life → End → Type 0
+IsLifeWritten l end = (end ≡ Ok tt) ⊎ ((e : Refusal) × (end ≡ Err e) × (is_some l.out ≡ true) × IsFlashUnwritten e)
+
 -- It is, and the device stands there at its end: all is out, and a file is written where one is named; or a write fails at what was erased.
 pub record EndsLife (l : Life) (before after : Option (List ℕ)) (end : End) : Type 0 where
   pub device : Standing
   pub mid : Option (List ℕ)
   pub replayed : IsReplayed l.shelf.items l.start l.script before mid device
-  pub rest : (IsWearOut l.wear device.wear mid after × ((end ≡ Ok tt) ⊎ (is_some l.out ≡ true))) ⊎ ((end ≡ Err refusals.Write) × OfWear device.wear (AppendsPrefix mid after))
+  pub rest : (IsWearOut l.wear device.wear mid after × IsLifeWritten l end) ⊎ ((end ≡ Err refusals.Write) × OfWear device.wear (AppendsPrefix mid after))
 
 abbrev pub AnswersLife : Life → Option (List ℕ) → Option (List ℕ) → End → Type 0
 AnswersLife l before after end = EndsLife l before after end ⊎ ((e : Refusal) × (end ≡ Err e) × StopsLife l before after e)

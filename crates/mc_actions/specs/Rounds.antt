@@ -1,30 +1,31 @@
 -- What is asked of a campaign of two rounds, and what answers it.
 use Rattle.std.specs.Prelude.{List, Option, Some, codes, ℕ, ◌++◌, ◌≡◌, ◌⊎◌}
 use Rattle.clap.specs.{Words.{first_value}, declared.parser.matches.Found.{Found}}
-use Rattle.mc_actions.specs.{Schedules.{HasOutput}, declared.rounds.Campaigned.{Campaigned}, declared.rounds.RoundText.{RoundText}, declared.schedule.Outputs.{Outputs}}
+use Rattle.mc_actions.specs.{Schedules.{HasOutput, IsFlashUnwritten}, declared.rounds.Campaigned.{Campaigned}, declared.rounds.RoundText.{RoundText}, declared.schedule.Outputs.{Outputs}}
 use Rattle.mc_actions.specs.declared.rounds.RoundText.TheVariants as texts
 use Rattle.mc_boot.specs.{Outcome.{Report, outcome_text}, Plan.{PowerOn}}
 use Rattle.mc_campaign.specs.{Campaigns.{AreReplayed, BeginsSecond, RefusesCampaign, in_round}, Rows.{Restarts}, Texts.{campaign_text}}
+use Rattle.mc_cli.specs.Files.{Holds}
 use Rattle.mc_explore.specs.declared.replays.ReplayError.{ReplayError}
 use Rattle.mc_flash.specs.Flash.{Content}
-use Rattle.mc_options.specs.{Arguments.{IsFlag, KeepsFiles}, Refusals.{FailsCampaign, HasText, IsLost, IsOfStart, LacksFlash, LacksOption}, Requests.{End, IsAnswered, IsDone, IsUnwritten}, Sources.{GivesStart}}
+use Rattle.mc_options.specs.{Arguments.{IsFlag, KeepsFiles}, Refusals.{FailsCampaign, HasText, IsLost, LacksFlash, LacksOption}, Requests.{End, IsAnswered, IsDone, IsUnwritten}, Sources.{FailsStart, GivesStart}}
 use Rattle.mc_options.specs.declared.refusal.Refusal.{Refusal}
 use Rattle.mc_options.specs.declared.refusal.Refusal.TheVariants as refusals
 use Rattle.mc_start.specs.Start.{begun}
 use Rattle.mc_trace.specs.{Sectors.{IsAt, picture}, Trace.{trace_text}, declared.error.TraceError.{TraceError}}
 
--- The words give a campaign, the start that it begins at, and whether the image confirms itself between the rounds; and no file that is read is
--- to be written.
-pub record GivesCampaign (found : Found) (c : Campaigned) : Type 0 where
-  pub start : GivesStart found c.start
+-- The words give a campaign, the start that it begins at, and whether the image confirms itself between the rounds; and no image is to be
+-- written over.
+pub record GivesCampaign (holds : Holds) (found : Found) (c : Campaigned) : Type 0 where
+  pub start : GivesStart holds found c.start
   pub campaign : first_value found (codes "schedule") ≡ Some (campaign_text c.campaign)
   pub confirms : IsFlag found (codes "confirm") c.confirms
   pub kept : KeepsFiles found
 
-abbrev pub LacksCampaign : Found → Refusal → Type 0
-LacksCampaign found e =
+abbrev pub LacksCampaign : Holds → Found → Refusal → Type 0
+LacksCampaign holds found e =
     LacksFlash found e
-    ⊎ ((LacksOption found (codes "schedule") e ⊎ HasText found (codes "schedule") (λ text. FailsCampaign text e)) ⊎ (IsLost found e ⊎ IsOfStart e))
+    ⊎ ((LacksOption found (codes "schedule") e ⊎ HasText found (codes "schedule") (λ text. FailsCampaign text e)) ⊎ (IsLost found e ⊎ FailsStart holds found e))
 
 -- Each round under a line of its own.
 abbrev pub rounds_text : List ℕ → List ℕ → List ℕ
@@ -42,10 +43,14 @@ pub record RoundsReplayed (c : Campaigned) : Type 0 where
 abbrev pub RefusesRounds : Campaigned → Refusal → Type 0
 RefusesRounds c e = (error : ReplayError) × (e ≡ refusals.Replay error) × RefusesCampaign (begun c.start) c.confirms c.campaign error
 
+-- Its flashes are not written: the one at the last cut is not found, or its file fails.
+abbrev pub IsCampaignUnwritten : Refusal → Type 0
+IsCampaignUnwritten e = ((error : ReplayError) × (e ≡ refusals.Replay error)) ⊎ IsFlashUnwritten e
+
 abbrev pub AnswersRounds : Campaigned → Outputs → Option (List ℕ) → Option (List ℕ) → End → Type 0
 AnswersRounds c o =
     IsAnswered (λ (r : RoundsReplayed c). rounds_text (outcome_text r.first) (outcome_text r.second)) IsDone
-    (λ e. RefusesRounds c e ⊎ ((e ≡ refusals.Memory) ⊎ HasOutput o)) IsUnwritten
+    (λ e. RefusesRounds c e ⊎ ((e ≡ refusals.Memory) ⊎ (HasOutput o × IsCampaignUnwritten e))) IsUnwritten
 
 -- That is what is shown of a round.
 abbrev pub IsRoundText : RoundText → PowerOn → List ℕ → List ℕ → Type 0

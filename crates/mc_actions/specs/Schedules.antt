@@ -3,9 +3,10 @@ use Rattle.std.specs.Prelude.{List, Option, Some, codes, is_some, option_map, tr
 use Rattle.clap.specs.{Words.{first_value}, declared.parser.matches.Found.{Found}}
 use Rattle.mc_actions.specs.{declared.schedule.Outputs.{Outputs}, declared.schedule.Scheduled.{Scheduled}}
 use Rattle.mc_boot.specs.Outcome.{Report, outcome_text}
+use Rattle.mc_cli.specs.Files.{Holds}
 use Rattle.mc_explore.specs.{Schedules.{CannotOccurAt, IsReplayed, RefusesReplay, Restarts}, declared.replays.ReplayError.{ReplayError}}
 use Rattle.mc_flash.specs.Flash.{Content}
-use Rattle.mc_options.specs.{Arguments.{KeepsFiles, MayGiveSchedule}, Refusals.{FailsSchedule, HasText, IsLost, IsOfStart, LacksFlash, LacksOption, LacksSpan, LacksView}, Requests.{End, IsAnswered, IsDone, IsUnwritten}, Sources.{GivesStart}}
+use Rattle.mc_options.specs.{Arguments.{KeepsFiles, MayGiveSchedule}, Refusals.{FailsSchedule, HasText, IsLost, LacksFlash, LacksOption, LacksSpan, LacksView}, Outfiles.{IsUnfinished}, Requests.{End, IsAnswered, IsDone, IsUnwritten}, Sources.{FailsStart, GivesStart}}
 use Rattle.mc_options.specs.declared.refusal.Refusal.{Refusal}
 use Rattle.mc_options.specs.declared.refusal.Refusal.TheVariants as refusals
 use Rattle.mc_start.specs.Start.{begun, schedule_text}
@@ -13,30 +14,31 @@ use Rattle.mc_trace.specs.{Sectors.{IsAt, picture}, Trace.{trace_text}}
 use Rattle.mc_trace.specs.{declared.sectors.View.{View}, declared.trace.Span.{Span}}
 use Rattle.mc_trace.specs.declared.error.TraceError.TheVariants as errors
 
--- The words give a schedule and the start that it begins at, and no file that is read is to be written; `boot` gives the schedule of no cut.
-pub record GivesScheduled (found : Found) (s : Scheduled) : Type 0 where
-  pub start : GivesStart found s.start
+-- The words give a schedule and the start that it begins at, and no image is to be written over; `boot` gives the schedule of no cut.
+pub record GivesScheduled (holds : Holds) (found : Found) (s : Scheduled) : Type 0 where
+  pub start : GivesStart holds found s.start
   pub schedule : MayGiveSchedule found (codes "schedule") (Some s.schedule)
   pub kept : KeepsFiles found
 
-pub record GivesBoot (found : Found) (s : Scheduled) : Type 0 where
-  pub start : GivesStart found s.start
+pub record GivesBoot (holds : Holds) (found : Found) (s : Scheduled) : Type 0 where
+  pub start : GivesStart holds found s.start
   pub schedule : codes "-" ≡ schedule_text s.schedule
   pub kept : KeepsFiles found
 
 -- They give none, or no start, or one of their files is not to be lost; the text of a schedule is the one that is read.
-abbrev pub LacksFrom : List ℕ → Found → Refusal → Type 0
-LacksFrom text found e = LacksFlash found e ⊎ (FailsSchedule text e ⊎ (IsLost found e ⊎ IsOfStart e))
+abbrev pub LacksFrom : List ℕ → Holds → Found → Refusal → Type 0
+LacksFrom text holds found e = LacksFlash found e ⊎ (FailsSchedule text e ⊎ (IsLost found e ⊎ FailsStart holds found e))
 
-abbrev pub LacksScheduled : Found → Refusal → Type 0
-LacksScheduled found e = LacksOption found (codes "schedule") e ⊎ HasText found (codes "schedule") (λ text. LacksFrom text found e)
+abbrev pub LacksScheduled : Holds → Found → Refusal → Type 0
+LacksScheduled holds found e =
+    LacksOption found (codes "schedule") e ⊎ HasText found (codes "schedule") (λ text. LacksFrom text holds found e)
 
 -- Besides, which operations are shown, or which view of the sectors.
-abbrev pub LacksTraced : Found → Refusal → Type 0
-LacksTraced found e = LacksSpan found e ⊎ LacksScheduled found e
+abbrev pub LacksTraced : Holds → Found → Refusal → Type 0
+LacksTraced holds found e = LacksSpan found e ⊎ LacksScheduled holds found e
 
-abbrev pub LacksViewed : Found → Refusal → Type 0
-LacksViewed found e = LacksView found e ⊎ LacksScheduled found e
+abbrev pub LacksViewed : Holds → Found → Refusal → Type 0
+LacksViewed holds found e = LacksView found e ⊎ LacksScheduled holds found e
 
 -- They name the files that flashes go to.
 pub record GivesOutputs (found : Found) (o : Outputs) : Type 0 where
@@ -46,6 +48,10 @@ pub record GivesOutputs (found : Found) (o : Outputs) : Type 0 where
 -- A file is to be written.
 abbrev pub HasOutput : Outputs → Type 0
 HasOutput o = (is_some o.at_cut || is_some o.out) ≡ true
+
+-- A flash is not written to its file.
+abbrev pub IsFlashUnwritten : Refusal → Type 0
+IsFlashUnwritten e = IsUnfinished (λ r. r ≡ refusals.Trace errors.Write) e
 
 -- What the boot after a schedule comes to.
 pub record Replayed (s : Scheduled) : Type 0 where
@@ -58,7 +64,7 @@ pub record Replayed (s : Scheduled) : Type 0 where
 abbrev pub RefusesReplayed : Scheduled → Outputs → Refusal → Type 0
 RefusesReplayed s o e =
     ((error : ReplayError) × (e ≡ refusals.Replay error) × RefusesReplay (begun s.start) s.schedule error)
-    ⊎ ((e ≡ refusals.Memory) ⊎ HasOutput o)
+    ⊎ ((e ≡ refusals.Memory) ⊎ (HasOutput o × IsFlashUnwritten e))
 
 abbrev pub AnswersReplay : Scheduled → Outputs → Option (List ℕ) → Option (List ℕ) → End → Type 0
 AnswersReplay s o = IsAnswered (λ (r : Replayed s). outcome_text r.outcome) IsDone (RefusesReplayed s o) IsUnwritten

@@ -3,8 +3,9 @@ use Rattle.std.specs.Prelude.{Bool, List, None, Option, Some, codes, decimal, fa
 use Rattle.clap.specs.{Words.{first_value}, declared.parser.matches.Found.{Found}}
 use Rattle.mc_actions.specs.{Layouts.{yes_or_no}, declared.vectors.Cuts.{Cuts}, declared.vectors.NewFolder.{NewFolder}, declared.vectors.Table.{Table}, declared.vectors.VectorsAsked.{VectorsAsked}}
 use Rattle.mc_actions.specs.declared.vectors.Table.TheVariants as tables
+use Rattle.mc_cli.specs.Files.{Holds}
 use Rattle.mc_explore.specs.declared.error.ExploreError.TheVariants as errors
-use Rattle.mc_options.specs.{Arguments.{IsFlag}, Numbers.{GivesNumber}, Refusals.{HasText, IsOfStart, LacksFlash, LacksRequired}, Requests.{End, IsAnswered, IsDone, IsUnwritten}, Sources.{GivesStart}}
+use Rattle.mc_options.specs.{Arguments.{IsFlag}, Numbers.{GivesNumber}, Refusals.{HasText, LacksFlash, LacksRequired}, Requests.{End, IsAnswered, IsDone, IsUnwritten}, Sources.{FailsStart, GivesStart}}
 use Rattle.mc_options.specs.declared.refusal.Refusal.{Refusal}
 use Rattle.mc_options.specs.declared.refusal.Refusal.TheVariants as refusals
 use Rattle.mc_start.specs.Start.{begun}
@@ -56,11 +57,12 @@ LacksTorn found e =
 abbrev pub LacksFolder : Found → Refusal → Type 0
 LacksFolder found e = (e ≡ refusals.Argument) × IsFlag found (codes "patches") true × (first_value found (codes "dir") ≡ None)
 
-abbrev pub LacksVectors : Found → Refusal → Type 0
-LacksVectors found e = (LacksFlash found e ⊎ LacksCuts found e) ⊎ ((LacksTorn found e ⊎ LacksFolder found e) ⊎ IsOfStart e)
+abbrev pub LacksVectors : Holds → Found → Refusal → Type 0
+LacksVectors holds found e =
+    (LacksFlash found e ⊎ LacksCuts found e) ⊎ ((LacksTorn found e ⊎ LacksFolder found e) ⊎ FailsStart holds found e)
 
-pub record GivesVectors (found : Found) (a : VectorsAsked) : Type 0 where
-  pub start : GivesStart found a.start
+pub record GivesVectors (holds : Holds) (found : Found) (a : VectorsAsked) : Type 0 where
+  pub start : GivesStart holds found a.start
   pub cuts : GivesCuts found a.cuts
   pub torn : GivesTorn found a.torn
   pub folder : GivesFolder found a.folder

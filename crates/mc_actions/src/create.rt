@@ -1,12 +1,12 @@
 //! `create`: an image from a payload.
-ghost use Rattle.std.specs.Prelude.{◌≡◌};
-ghost use Rattle.mc_actions.specs.Images.{AnswersCreate, AnswersInput, IsStandard};
+ghost use Rattle.std.specs.Prelude.{List, Option, ℕ};
+ghost use Rattle.mc_actions.specs.Images.{AnswersCreate, MakesImage, WritesInput};
 ghost use Rattle.mc_imgtool.specs.Created.{created};
 ghost use Rattle.mc_options.specs.Arguments.{IsReady};
 
 use crate::creation::Creation;
 use crate::infile::open_infile;
-use mc_cli::WatchedFiles;
+use mc_cli::{KnownFiles, WatchedFiles};
 use mc_options::{Outfile, Refusal, is_same_file};
 use std::alloc::Global;
 use std::io::{Read, Write};
@@ -22,7 +22,7 @@ const STANDARD: &str = "-";
 ///
 /// `SameFile` where OUTFILE is INFILE, by whatever path; `Open` where one of the files cannot be opened or made; what the image tool
 /// refuses.
-pub fn answer<F: Files, R: Read, O: Write>(
+pub fn answer<F: KnownFiles, R: Read, O: Write>(
     files: &WatchedFiles<'_, F>,
     alloc: Global,
     creation: &Creation<'_>,
@@ -30,7 +30,8 @@ pub fn answer<F: Files, R: Read, O: Write>(
     out: &mut O,
 ) -> Result<(), Refusal>
     requires { IsReady creation.now.options }
-    ensures { AnswersCreate creation.now (R.remaining input.old) (O.contents out.old)
+    ensures { AnswersCreate creation.now (F.holds files.now.files.now) (R.remaining input.old)
+        (O.contents out.old)
         (O.contents out.new) result }
 {
     let infile = creation.infile();
@@ -57,11 +58,8 @@ fn make_from<F: Files, R: Read, O: Write>(
     out: &mut O,
 ) -> Result<(), Refusal>
     requires { IsReady creation.now.options }
-    ensures printed { IsStandard creation.now.outfile → AnswersInput
-        (created creation.now.options) (R.remaining input.old) (O.contents out.old)
+    ensures { MakesImage creation.now (R.remaining input.old) (O.contents out.old)
         (O.contents out.new) result }
-    ensures written { (IsStandard creation.now.outfile → ⊥) → O.contents out.new
-        ≡ O.contents out.old }
 {
     if creation.outfile() == STANDARD {
         return creation.make(alloc, input, out).map_err(Refusal::Tool);
@@ -81,6 +79,8 @@ fn make_file<F: Files, R: Read>(
     input: &mut R,
 ) -> Result<(), Refusal>
     requires { IsReady creation.now.options }
+    ensures { (printed : Option (List ℕ)) → WritesInput (created creation.now.options)
+        (R.remaining input.old) printed printed result }
 {
     let mut output = if creation.keeps() {
         Outfile::beside(files, alloc, creation.outfile())?

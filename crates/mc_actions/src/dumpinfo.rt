@@ -1,16 +1,15 @@
 //! `dumpinfo`: what is in an image?
-ghost use Rattle.std.specs.Prelude.{◌≡◌, false};
-ghost use Rattle.mc_actions.specs.Images.{AnswersFile, AnswersInput, AnswersNamed};
+ghost use Rattle.mc_actions.specs.Images.{AnswersInfile, AnswersInput};
 ghost use Rattle.mc_imgtool.specs.Lines.{dumped};
 
 use crate::infile::open_infile;
+use mc_cli::KnownFiles;
 use mc_image::{ImageView, Tlvs};
 use mc_imgtool::{dumpinfo, read_bounded};
 use mc_options::{GREATEST_IMAGE, Refusal, entry_name};
 use std::alloc::Global;
 use std::io;
 use std::io::{Read, Write};
-use std::rt::Files;
 
 /// Prints the report of the image of INFILE, or of standard input where no file is named. With `named` the usual names of its entries
 /// follow on `err`.
@@ -18,7 +17,7 @@ use std::rt::Files;
 /// # Errors
 ///
 /// `Open` where INFILE cannot be opened, and what the image tool refuses.
-pub fn answer<F: Files, R: Read, O: Write, E: Write>(
+pub fn answer<F: KnownFiles, R: Read, O: Write, E: Write>(
     files: &F,
     alloc: Global,
     infile: Option<&str>,
@@ -27,8 +26,8 @@ pub fn answer<F: Files, R: Read, O: Write, E: Write>(
     out: &mut O,
     err: &mut E,
 ) -> Result<(), Refusal>
-    ensures { AnswersNamed dumped named infile.entry (R.remaining input.old) (O.contents out.old)
-        (O.contents out.new) result }
+    ensures { AnswersInfile dumped (F.holds files.now) infile.entry (R.remaining input.old)
+        (O.contents out.old) (O.contents out.new) result }
 {
     let Some(path) = infile else {
         return report(alloc, named, input, out, err);
@@ -49,9 +48,8 @@ fn report<R: Read, O: Write, E: Write>(
     out: &mut O,
     err: &mut E,
 ) -> Result<(), Refusal>
-    ensures plain { named ≡ false → AnswersInput dumped (R.remaining input.old) (O.contents out.old)
-        (O.contents out.new) result }
-    ensures some { AnswersFile dumped (O.contents out.old) (O.contents out.new) result }
+    ensures { AnswersInput dumped (R.remaining input.old) (O.contents out.old) (O.contents out.new)
+        result }
 {
     if named {
         return report_named(alloc, input, out, err);
@@ -70,7 +68,8 @@ fn report_named<R: Read, O: Write, E: Write>(
     out: &mut O,
     err: &mut E,
 ) -> Result<(), Refusal>
-    ensures { AnswersFile dumped (O.contents out.old) (O.contents out.new) result }
+    ensures { AnswersInput dumped (R.remaining input.old) (O.contents out.old) (O.contents out.new)
+        result }
 {
     let bytes = read_bounded(alloc, input, GREATEST_IMAGE)?;
     let reported = dumpinfo(alloc, &mut bytes.as_slice(), out).map_err(Refusal::Tool);

@@ -1,18 +1,18 @@
 //! `life`: what happens to a device, replayed event by event.
-ghost use Rattle.std.specs.Prelude.{◌≡◌, ◌≤◌, ◌⊎◌, IfErr, IfOk, MatchResult, OnErr, OnOk, length};
+ghost use Rattle.std.specs.Prelude.{◌≡◌, ◌≤◌, ◌⊎◌, ℕ, List, Option, IfErr, IfOk, MatchResult, OnErr, OnOk, length};
 ghost use Rattle.clap.specs.Matches.{found_of};
-ghost use Rattle.mc_actions.specs.Lives.{AnswersLife, GivesLife, IsOfDevice, IsOfScript, IsWearOut, LacksDevice, LacksLife, LacksShelf, StopsLife};
+ghost use Rattle.mc_actions.specs.Lives.{AddsFile, AnswersLife, FailsDevice, FailsScript, GivesDevice, GivesLife, GivesScript, HoldsAlone, IsOfDevice, IsShelfOf, IsWearOut, LacksDevice, LacksFile, LacksLife, LacksShelf, StopsLife};
 ghost use Rattle.mc_life.specs.Device.{OfWear};
 ghost use Rattle.mc_life.specs.Replay.{IsReplayed};
 ghost use Rattle.mc_options.specs.Arguments.{GivesLayout, GivesRules, KeepsFiles};
 ghost use Rattle.mc_output.specs.Text.{AppendsPrefix};
 
+use crate::infile::open_infile;
 use crate::replay::write_file;
 use clap::ArgMatches;
-use mc_cli::WatchedFiles;
+use mc_cli::{KnownFiles, WatchedFiles};
 use mc_explore::{Kind, Start};
 use mc_flash::{Layout, Slot, SnapFlash};
-use mc_imgtool::ToolError;
 use mc_life::{
     Device, Event, EventError, File, LifeError, Script, find, replay_life, said, write_wear,
 };
@@ -22,9 +22,9 @@ use mc_options::{
 };
 use mc_output::WriteFailed;
 use std::alloc::Global;
+use std::io;
 use std::io::{Read, Write};
 use std::rt::Files;
-use std::{fs, io};
 
 /// The start of a device that is delivered with an image in the primary, all else blank.
 ///
@@ -33,6 +33,7 @@ use std::{fs, io};
 /// `Start` where the image is refused, or does not fit, or an allocation failed.
 fn delivered(alloc: Global, layout: &Layout, image: &[u8]) -> Result<Start, Refusal>
     ensures layout { IfOk result (λ start. start.geometry ≡ layout.now) }
+    ensures content { IfOk result (λ start. HoldsAlone layout.now image.now start.content) }
     ensures refused { IfErr result IsOfDevice }
 {
     let images = Start::from_images(alloc, layout, Kind::None, image, image)?;
@@ -49,14 +50,17 @@ fn delivered(alloc: Global, layout: &Layout, image: &[u8]) -> Result<Start, Refu
 /// # Errors
 ///
 /// `Device` where not one of `--flash` and `--image` is given; what is refused of the file.
-fn start_of<F: Files>(
+fn start_of<F: KnownFiles>(
     files: &F,
     alloc: Global,
     arguments: &ArgMatches<'_>,
     layout: &Layout,
 ) -> Result<Start, Refusal>
     ensures layout { IfOk result (λ start. start.geometry ≡ layout.now) }
-    ensures refused { IfErr result (λ e. LacksDevice (found_of arguments.now) e ⊎ IsOfDevice e) }
+    ensures device { IfOk result (λ start. GivesDevice (F.holds files.now)
+        (found_of arguments.now) layout.now start.content) }
+    ensures refused { let found = found_of arguments.now in IfErr result (λ e. LacksDevice found e
+        ⊎ FailsDevice (F.holds files.now) found e) }
 {
     match (arguments.get_str("flash"), arguments.get_str("image")) {
         (Some(path), None) => {
@@ -76,15 +80,18 @@ fn start_of<F: Files>(
 /// # Errors
 ///
 /// `Layout` and `Argument` of the words; `SameFile`; those of `start_of`.
-fn read_device<F: Files>(
+fn read_device<F: KnownFiles>(
     files: &F,
     alloc: Global,
     arguments: &ArgMatches<'_>,
 ) -> Result<Start, Refusal>
     ensures layout { IfOk result (λ start. GivesLayout (found_of arguments.now) start.geometry) }
     ensures rules { IfOk result (λ start. GivesRules (found_of arguments.now) start.rules) }
+    ensures device { IfOk result (λ start. GivesDevice (F.holds files.now)
+        (found_of arguments.now) start.geometry start.content) }
     ensures kept { OnOk result (KeepsFiles (found_of arguments.now)) }
-    ensures refused { IfErr result (LacksLife (found_of arguments.now)) }
+    ensures refused { (input : Option (List ℕ)) → IfErr result (LacksLife (F.holds files.now) input
+        (found_of arguments.now)) }
 {
     let layout = layout_options(arguments)?;
     let rules = rules_options(arguments)?;
@@ -98,13 +105,15 @@ fn read_device<F: Files>(
 /// # Errors
 ///
 /// `Tool` where a read failed, or the file is too long; `Memory`.
-fn add_file<F: Files>(
+fn add_file<F: KnownFiles>(
     files: &F,
     alloc: Global,
     name: &str,
     shelf: &mut Vec<File>,
 ) -> Result<(), Refusal>
-    ensures { IfErr result IsOfDevice }
+    ensures added { OnOk result (AddsFile (F.holds files.now) name.now shelf.old.items
+        shelf.new.items) }
+    ensures refused { IfErr result (LacksFile (F.holds files.now)) }
 {
     if find(shelf, name).is_some() {
         return Ok(());
@@ -115,14 +124,11 @@ fn add_file<F: Files>(
         Err(Refusal::Open) => return Ok(()),
         Err(refusal) => return Err(refusal),
     };
-    if bytes.len() > GREATEST_IMAGE as usize {
-        return Err(Refusal::Tool(ToolError::InputTooLong));
-    }
     let file = File::new(alloc, name, bytes)?;
-    match shelf.push(file) {
-        Ok(()) => Ok(()),
-        Err(_) => Err(Refusal::Memory),
-    }
+    let Ok(()) = shelf.push(file) else {
+        return Err(Refusal::Memory);
+    };
+    Ok(())
 }
 
 /// The files that a script names, each once. None of them is the file that is to be written.
@@ -130,17 +136,18 @@ fn add_file<F: Files>(
 /// # Errors
 ///
 /// `SameFile`; those of `add_file`.
-fn read_shelf<F: Files>(
+fn read_shelf<F: KnownFiles>(
     files: &F,
     alloc: Global,
     script: &Script,
     outfile: Option<&str>,
 ) -> Result<Vec<File>, Refusal>
-    ensures { IfErr result (LacksShelf outfile.entry) }
+    ensures shelf { IfOk result (λ shelf. IsShelfOf (F.holds files.now) script.now shelf.items) }
+    ensures refused { IfErr result (LacksShelf (F.holds files.now) outfile.entry) }
 {
     let names = script.names(alloc)?;
     let mut shelf = Vec::new(alloc);
-    for name in &names {
+    'names: for name in &names {
         if let Some(outfile) = outfile
             && is_same_file(files, name, outfile)
         {
@@ -156,19 +163,22 @@ fn read_shelf<F: Files>(
 /// # Errors
 ///
 /// `Open` where the file cannot be opened; `Script` with what is refused of what is read.
-fn read_script<F: Files, R: Read>(
+fn read_script<F: KnownFiles, R: Read>(
     files: &F,
     alloc: Global,
     arguments: &ArgMatches<'_>,
     input: &mut R,
 ) -> Result<Script, Refusal>
-    ensures { IfErr result IsOfScript }
+    ensures given { IfOk result (λ script. GivesScript (F.holds files.now) (R.remaining input.old)
+        (found_of arguments.now) (Ok script)) }
+    ensures refused { IfErr result (FailsScript (F.holds files.now) (R.remaining input.old)
+        (found_of arguments.now)) }
 {
     let path = arguments.get_str("SCRIPT").unwrap_or("-");
     if path == "-" {
         return Ok(Script::read(alloc, input)?);
     }
-    let mut file = fs::open(files, path).map_err(|_| Refusal::Open)?;
+    let mut file = open_infile(files, path)?;
     Ok(Script::read(alloc, &mut file)?)
 }
 
@@ -191,14 +201,16 @@ pub struct Life<'p> {
 /// # Errors
 ///
 /// Those of `read_device`, `read_script` and `read_shelf`, in this order.
-pub fn read<'p, F: Files, R: Read>(
+pub fn read<'p, F: KnownFiles, R: Read>(
     files: &F,
     alloc: Global,
     arguments: &ArgMatches<'p>,
     input: &mut R,
 ) -> Result<Life<'p>, Refusal>
-    ensures given { IfOk result (GivesLife (found_of arguments.now)) }
-    ensures refused { IfErr result (LacksLife (found_of arguments.now)) }
+    ensures given { IfOk result (GivesLife (F.holds files.now) (R.remaining input.old)
+        (found_of arguments.now)) }
+    ensures refused { IfErr result (LacksLife (F.holds files.now) (R.remaining input.old)
+        (found_of arguments.now)) }
 {
     let start = read_device(files, alloc, arguments)?;
     let script = read_script(files, alloc, arguments, input)?;

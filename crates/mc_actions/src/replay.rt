@@ -1,11 +1,11 @@
 //! `boot` and `replay`: what the boot after a schedule of power cuts does.
-ghost use Rattle.std.specs.Prelude.{IfErr, IfOk, OnErr, codes};
+ghost use Rattle.std.specs.Prelude.{IfErr, IfOk, codes};
 ghost use Rattle.clap.specs.Matches.{found_of};
-ghost use Rattle.mc_actions.specs.Schedules.{AnswersReplay, GivesBoot, GivesOutputs, GivesScheduled, HasOutput, LacksFrom, LacksScheduled, RefusesReplayed};
+ghost use Rattle.mc_actions.specs.Schedules.{AnswersReplay, GivesBoot, GivesOutputs, GivesScheduled, HasOutput, IsFlashUnwritten, LacksFrom, LacksScheduled, RefusesReplayed};
 
 use crate::schedule::{Outputs, Scheduled, read_schedule, schedule_from};
 use clap::ArgMatches;
-use mc_cli::WatchedFiles;
+use mc_cli::{KnownFiles, WatchedFiles};
 use mc_explore::{flash_at_cut, replay};
 use mc_flash::{Flash, JournalFlash};
 use mc_options::{Outfile, Refusal};
@@ -21,14 +21,16 @@ use std::rt::Files;
 /// # Errors
 ///
 /// `Source` and `Layout` of the words; `SameFile`; what `read_start` refuses.
-pub fn read_boot<'p, F: Files>(
+pub fn read_boot<'p, F: KnownFiles>(
     files: &F,
     alloc: Global,
     arguments: &ArgMatches<'p>,
 ) -> Result<(Scheduled, Outputs<'p>), Refusal>
-    ensures boot { IfOk result (λ asked. GivesBoot (found_of arguments.now) asked.0) }
+    ensures boot { IfOk result (λ asked. GivesBoot (F.holds files.now) (found_of arguments.now)
+        asked.0) }
     ensures outputs { IfOk result (λ asked. GivesOutputs (found_of arguments.now) asked.1) }
-    ensures refused { IfErr result (LacksFrom (codes "-") (found_of arguments.now)) }
+    ensures refused { IfErr result (LacksFrom (codes "-") (F.holds files.now)
+        (found_of arguments.now)) }
 {
     let given = schedule_from(files, alloc, arguments, "-")?;
     Ok((given, Outputs::named(arguments)))
@@ -39,14 +41,15 @@ pub fn read_boot<'p, F: Files>(
 /// # Errors
 ///
 /// Those of `read_boot`, and `Schedule` of the words.
-pub fn read<'p, F: Files>(
+pub fn read<'p, F: KnownFiles>(
     files: &F,
     alloc: Global,
     arguments: &ArgMatches<'p>,
 ) -> Result<(Scheduled, Outputs<'p>), Refusal>
-    ensures schedule { IfOk result (λ asked. GivesScheduled (found_of arguments.now) asked.0) }
+    ensures schedule { IfOk result (λ asked. GivesScheduled (F.holds files.now)
+        (found_of arguments.now) asked.0) }
     ensures outputs { IfOk result (λ asked. GivesOutputs (found_of arguments.now) asked.1) }
-    ensures refused { IfErr result (LacksScheduled (found_of arguments.now)) }
+    ensures refused { IfErr result (LacksScheduled (F.holds files.now) (found_of arguments.now)) }
 {
     let given = read_schedule(files, alloc, arguments)?;
     Ok((given, Outputs::named(arguments)))
@@ -81,7 +84,7 @@ pub fn write_left<F: Files>(
     flash: &JournalFlash,
     outputs: &Outputs<'_>,
 ) -> Result<(), Refusal>
-    ensures { OnErr result (HasOutput outputs.now) }
+    ensures { IfErr result (λ e. HasOutput outputs.now × IsFlashUnwritten e) }
 {
     match outputs.out {
         Some(path) => write_file(files, alloc, path, flash),
@@ -128,7 +131,9 @@ pub fn write_file<F: Files, S: Flash>(
     alloc: Global,
     path: &str,
     flash: &S,
-) -> Result<(), Refusal> {
+) -> Result<(), Refusal>
+    ensures { IfErr result IsFlashUnwritten }
+{
     let mut outfile = Outfile::beside(files, alloc, path)?;
     let written = write_slots(flash, &mut outfile.file);
     outfile.end(written.map_err(Refusal::Trace))

@@ -2,7 +2,7 @@
 ghost use Rattle.std.specs.Prelude.{IfErr, IfOk, List, ℕ, MatchResult, OnErr, OnOk};
 ghost use Rattle.std.specs.Io.KnownBytes.{Appends};
 ghost use Rattle.clap.specs.Matches.{found_of};
-ghost use Rattle.mc_actions.specs.Rounds.{AnswersRounds, AnswersShown, BeginsBoth, GivesCampaign, IsRoundText, LacksCampaign, RefusesRounds};
+ghost use Rattle.mc_actions.specs.Rounds.{AnswersRounds, AnswersShown, BeginsBoth, GivesCampaign, IsCampaignUnwritten, IsRoundText, LacksCampaign, RefusesRounds};
 ghost use Rattle.mc_actions.specs.Schedules.{HasOutput};
 ghost use Rattle.mc_boot.specs.Outcome.{Report};
 ghost use Rattle.mc_campaign.specs.Campaigns.{BeginsSecond, in_round};
@@ -15,7 +15,7 @@ use crate::replay::{write_file, write_left};
 use crate::schedule::Outputs;
 use clap::ArgMatches;
 use mc_campaign::{Campaign, Round, replay_campaign, start_of_second};
-use mc_cli::WatchedFiles;
+use mc_cli::{KnownFiles, WatchedFiles};
 use mc_explore::{ReplayError, Schedule, Start, flash_at_cut};
 use mc_flash::JournalFlash;
 use mc_options::{Refusal, check_outputs, flash_options, read_start, required};
@@ -47,13 +47,13 @@ pub enum RoundText {
 /// # Errors
 ///
 /// `Source`, `Layout` and `Campaign` of the words, in this order; `SameFile`; what `read_start` refuses.
-pub fn read<F: Files>(
+pub fn read<F: KnownFiles>(
     files: &F,
     alloc: Global,
     arguments: &ArgMatches<'_>,
 ) -> Result<Campaigned, Refusal>
-    ensures given { IfOk result (GivesCampaign (found_of arguments.now)) }
-    ensures refused { IfErr result (LacksCampaign (found_of arguments.now)) }
+    ensures given { IfOk result (GivesCampaign (F.holds files.now) (found_of arguments.now)) }
+    ensures refused { IfErr result (LacksCampaign (F.holds files.now) (found_of arguments.now)) }
 {
     let options = match flash_options(arguments) {
         Ok(options) => options,
@@ -108,7 +108,7 @@ impl Campaigned {
         alloc: Global,
         outputs: &Outputs<'_>,
     ) -> Result<(), Refusal>
-        ensures { OnErr result (HasOutput outputs.now) }
+        ensures { IfErr result (λ e. HasOutput outputs.now × IsCampaignUnwritten e) }
     {
         let Some(path) = outputs.at_cut else {
             return Ok(());

@@ -7,10 +7,10 @@ ghost use Rattle.mc_options.specs.Arguments.{KeepsFiles};
 ghost use Rattle.mc_options.specs.Sources.{GivesStart};
 
 use clap::ArgMatches;
+use mc_cli::KnownFiles;
 use mc_explore::{Schedule, Start};
 use mc_options::{Refusal, check_outputs, flash_options, read_start, required};
 use std::alloc::Global;
-use std::rt::Files;
 
 /// A start, and a schedule of power cuts from it.
 #[derive(Drop)]
@@ -24,13 +24,13 @@ pub struct Scheduled {
 /// # Errors
 ///
 /// `Argument` where no schedule is given; what `schedule_from` refuses.
-pub fn read_schedule<F: Files>(
+pub fn read_schedule<F: KnownFiles>(
     files: &F,
     alloc: Global,
     arguments: &ArgMatches<'_>,
 ) -> Result<Scheduled, Refusal>
-    ensures given { IfOk result (GivesScheduled (found_of arguments.now)) }
-    ensures refused { IfErr result (LacksScheduled (found_of arguments.now)) }
+    ensures given { IfOk result (GivesScheduled (F.holds files.now) (found_of arguments.now)) }
+    ensures refused { IfErr result (LacksScheduled (F.holds files.now) (found_of arguments.now)) }
 {
     schedule_from(files, alloc, arguments, required(arguments, "schedule")?)
 }
@@ -40,16 +40,18 @@ pub fn read_schedule<F: Files>(
 /// # Errors
 ///
 /// `Source`, `Layout` and `Schedule` of the words, in this order; `SameFile` of the files to be written; what `read_start` refuses.
-pub fn schedule_from<F: Files>(
+pub fn schedule_from<F: KnownFiles>(
     files: &F,
     alloc: Global,
     arguments: &ArgMatches<'_>,
     schedule: &str,
 ) -> Result<Scheduled, Refusal>
-    ensures start { IfOk result (λ t. GivesStart (found_of arguments.now) t.start) }
+    ensures start { IfOk result (λ t. GivesStart (F.holds files.now) (found_of arguments.now)
+        t.start) }
     ensures schedule { IfOk result (λ t. schedule.now ≡ schedule_text t.schedule) }
     ensures kept { OnOk result (KeepsFiles (found_of arguments.now)) }
-    ensures refused { IfErr result (LacksFrom schedule.now (found_of arguments.now)) }
+    ensures refused { IfErr result (LacksFrom schedule.now (F.holds files.now)
+        (found_of arguments.now)) }
 {
     let options = match flash_options(arguments) {
         Ok(options) => options,

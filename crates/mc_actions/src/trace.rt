@@ -6,26 +6,27 @@ ghost use Rattle.mc_options.specs.Arguments.{GivesSpan, GivesView};
 
 use crate::schedule::{Scheduled, read_schedule};
 use clap::ArgMatches;
+use mc_cli::KnownFiles;
 use mc_flash::JournalFlash;
 use mc_options::{Refusal, span_options, view_options};
 use mc_trace::{Span, View, write_sectors, write_trace};
 use std::alloc::Global;
 use std::io::Write;
-use std::rt::Files;
 
 /// What `trace` is asked for: a schedule, and from which of each boot's operations to which.
 ///
 /// # Errors
 ///
 /// What `span_options` and `read_schedule` refuse.
-pub fn read<F: Files>(
+pub fn read<F: KnownFiles>(
     files: &F,
     alloc: Global,
     arguments: &ArgMatches<'_>,
 ) -> Result<(Scheduled, Span), Refusal>
-    ensures schedule { IfOk result (λ asked. GivesScheduled (found_of arguments.now) asked.0) }
+    ensures schedule { IfOk result (λ asked. GivesScheduled (F.holds files.now)
+        (found_of arguments.now) asked.0) }
     ensures span { IfOk result (λ asked. GivesSpan (found_of arguments.now) asked.1) }
-    ensures refused { IfErr result (LacksTraced (found_of arguments.now)) }
+    ensures refused { IfErr result (LacksTraced (F.holds files.now) (found_of arguments.now)) }
 {
     let span = span_options(arguments)?;
     let given = read_schedule(files, alloc, arguments)?;
@@ -57,14 +58,15 @@ pub fn answer<O: Write>(
 /// # Errors
 ///
 /// What `view_options` and `read_schedule` refuse.
-pub fn read_sectors<F: Files>(
+pub fn read_sectors<F: KnownFiles>(
     files: &F,
     alloc: Global,
     arguments: &ArgMatches<'_>,
 ) -> Result<(Scheduled, View), Refusal>
-    ensures schedule { IfOk result (λ asked. GivesScheduled (found_of arguments.now) asked.0) }
+    ensures schedule { IfOk result (λ asked. GivesScheduled (F.holds files.now)
+        (found_of arguments.now) asked.0) }
     ensures view { IfOk result (λ asked. GivesView (found_of arguments.now) asked.1) }
-    ensures refused { IfErr result (LacksViewed (found_of arguments.now)) }
+    ensures refused { IfErr result (LacksViewed (F.holds files.now) (found_of arguments.now)) }
 {
     let view = view_options(arguments)?;
     let given = read_schedule(files, alloc, arguments)?;

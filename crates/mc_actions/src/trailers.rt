@@ -2,11 +2,11 @@
 ghost use Rattle.std.specs.Prelude.{◌≡◌, IfErr, IfOk};
 ghost use Rattle.clap.specs.Matches.{found_of};
 ghost use Rattle.mc_actions.specs.Layouts.{AnswersType, yes_or_no};
-ghost use Rattle.mc_options.specs.Refusals.{LacksStart};
-ghost use Rattle.mc_options.specs.Sources.{GivesStart};
+ghost use Rattle.mc_options.specs.Sources.{GivesStart, LacksStart};
 ghost use Rattle.mc_trailer.specs.Trailer.{trailer_of};
 
 use clap::ArgMatches;
+use mc_cli::KnownFiles;
 use mc_explore::Start;
 use mc_flash::{Flash, FlashError, JournalFlash, Slot};
 use mc_options::{Refusal, flash_options, read_start};
@@ -14,20 +14,19 @@ use mc_output::write_text;
 use mc_trailer::{Trailer, resumes_by, swap_type};
 use std::alloc::Global;
 use std::io::Write;
-use std::rt::Files;
 
 /// What `type` is asked for: the start of a source. The words are checked before a file is touched.
 ///
 /// # Errors
 ///
 /// `Source` and `Layout` of the options; what `read_start` refuses.
-pub fn read<F: Files>(
+pub fn read<F: KnownFiles>(
     files: &F,
     alloc: Global,
     arguments: &ArgMatches<'_>,
 ) -> Result<Start, Refusal>
-    ensures given { IfOk result (GivesStart (found_of arguments.now)) }
-    ensures refused { IfErr result (LacksStart (found_of arguments.now)) }
+    ensures given { IfOk result (GivesStart (F.holds files.now) (found_of arguments.now)) }
+    ensures refused { IfErr result (LacksStart (F.holds files.now) (found_of arguments.now)) }
 {
     let options = match flash_options(arguments) {
         Ok(options) => options,

@@ -7,7 +7,7 @@ ghost use Rattle.mc_output.specs.Text.{AppendsPrefix};
 
 use crate::trailers::yes_or_no;
 use clap::ArgMatches;
-use mc_cli::WatchedFiles;
+use mc_cli::{KnownFiles, WatchedFiles};
 use mc_explore::{ExploreError, Line, Schedule, Start, flash_at_cut, replay};
 use mc_flash::{Flash, JournalFlash};
 use mc_options::{
@@ -410,14 +410,14 @@ pub struct VectorsAsked<'p> {
 /// # Errors
 ///
 /// `Source`, `Layout` and the numbers of the words; `Argument`; what `read_start` refuses.
-pub fn read<'p, F: Files>(
+pub fn read<'p, F: KnownFiles>(
     files: &F,
     alloc: Global,
     arguments: &ArgMatches<'p>,
 ) -> Result<VectorsAsked<'p>, Refusal>
-    ensures given { IfOk result (GivesVectors (found_of arguments.now)) }
+    ensures given { IfOk result (GivesVectors (F.holds files.now) (found_of arguments.now)) }
     ensures few { IfOk result (λ asked. IsFew asked.cuts) }
-    ensures refused { IfErr result (LacksVectors (found_of arguments.now)) }
+    ensures refused { IfErr result (LacksVectors (F.holds files.now) (found_of arguments.now)) }
 {
     let options = match flash_options(arguments) {
         Ok(options) => options,

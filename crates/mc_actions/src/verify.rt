@@ -3,22 +3,23 @@ ghost use Rattle.mc_actions.specs.Images.{AnswersInfile};
 ghost use Rattle.mc_imgtool.specs.Lines.{verified};
 
 use crate::infile::open_infile;
+use mc_cli::KnownFiles;
 use mc_options::Refusal;
 use std::io::{Read, Write};
-use std::rt::Files;
 
 /// Prints the line for the valid image of INFILE, or of standard input where no file is named.
 ///
 /// # Errors
 ///
 /// `Open` where INFILE cannot be opened, and what the image tool refuses.
-pub fn answer<F: Files, R: Read, O: Write>(
+pub fn answer<F: KnownFiles, R: Read, O: Write>(
     files: &F,
     infile: Option<&str>,
     input: &mut R,
     out: &mut O,
 ) -> Result<(), Refusal>
-    ensures { AnswersInfile verified infile.entry (R.remaining input.old) (O.contents out.old)
+    ensures { AnswersInfile verified (F.holds files.now) infile.entry (R.remaining input.old)
+        (O.contents out.old)
         (O.contents out.new) result }
 {
     match infile {

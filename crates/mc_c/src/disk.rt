@@ -1,10 +1,11 @@
 //! Files in memory: `a`, `b` and `c`, which are read, and `out`, which is written.
+use mc_command::KnownFiles;
 use std::alloc::Allocator;
 use std::cell::RefCell;
 use std::fs::{Metadata, OpenFile, OpenOptions};
-use std::io;
 use std::io::{ErrorKind, Read, Seek, SeekFrom, Write};
 use std::rt::Files;
+use std::{fs, io};
 
 /// Three files that can be read, and one that can be written.
 #[derive(Drop)]
@@ -28,6 +29,10 @@ fn unsupported() -> io::Error {
 }
 
 impl Read for Opened<'_> {
+    ghost use Rattle.mc_c.specs.Disks.{left_of};
+
+    ghost remaining = { left_of };
+
     fn read(&mut self, buf: &mut [u8]) -> io::Result<usize> {
         match self {
             Opened::Reading(left) => Read::read(left, buf),
@@ -79,6 +84,23 @@ impl OpenFile for Opened<'_> {
     }
 }
 
+impl<'a> Disk<'a> {
+    ghost use Rattle.std.specs.Prelude.{◌≡◌, option_map};
+    ghost use Rattle.mc_c.specs.Disks.{bytes_at};
+
+    /// What the file of a path holds, if it is one of those that are read.
+    fn bytes_at(&self, path: &str) -> Option<&'a [u8]>
+        ensures { option_map (λ bytes. bytes.now) result ≡ bytes_at self.now path.now }
+    {
+        match path {
+            "a" => Some(self.a),
+            "b" => Some(self.b),
+            "c" => Some(self.c),
+            _ => None,
+        }
+    }
+}
+
 impl<'a> Files for Disk<'a> {
     type File = Opened<'a>;
 
@@ -86,10 +108,10 @@ impl<'a> Files for Disk<'a> {
 
     fn open_file(&self, how: &OpenOptions, path: &str) -> io::Result<Opened<'a>> {
         how.check()?;
+        if let Some(bytes) = self.bytes_at(path) {
+            return Ok(Opened::Reading(bytes));
+        }
         match path {
-            "a" => Ok(Opened::Reading(self.a)),
-            "b" => Ok(Opened::Reading(self.b)),
-            "c" => Ok(Opened::Reading(self.c)),
             "out" => {
                 if let Ok(mut bytes) = self.out.try_borrow_mut() {
                     bytes.clear();
@@ -134,5 +156,18 @@ impl<'a> Files for Disk<'a> {
 
     fn remove_dir_all<B: Allocator>(&self, _alloc: B, _path: &str) -> io::Result<()> {
         Err(unsupported())
+    }
+}
+
+impl<'a> KnownFiles for Disk<'a> {
+    ghost use Rattle.mc_c.specs.Disks.{bytes_at};
+
+    ghost holds = { bytes_at };
+
+    fn open_to_read(&self, path: &str) -> io::Result<Opened<'a>> {
+        match self.bytes_at(path) {
+            Some(bytes) => Ok(Opened::Reading(bytes)),
+            None => fs::open(self, path),
+        }
     }
 }

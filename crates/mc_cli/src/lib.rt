@@ -5,9 +5,11 @@
 mod command;
 mod explanations;
 mod imgtool;
+mod known;
 mod watched;
 
 pub use command::parse;
 pub use explanations::{Explanation, all_explanations, explanation_of};
 pub use imgtool::left_out;
+pub use known::KnownFiles;
 pub use watched::{Failed, WatchedFiles, WatchedWriter};

@@ -1,5 +1,6 @@
 //! Files that remember which of them was opened last, and why one could not be opened or written; a writer that remembers why a write
 //! failed.
+use crate::known::KnownFiles;
 use std::alloc::{Allocator, Global};
 use std::cell::RefCell;
 use std::fs::{Metadata, OpenOptions, Permissions};
@@ -18,7 +19,7 @@ pub struct Failed {
 /// The same files, with the last that was opened, the last that failed, and what is refused in a script.
 #[derive(Drop)]
 pub struct WatchedFiles<'f, F: Files> {
-    files: &'f F,
+    pub files: &'f F,
     alloc: Global,
     opened: RefCell<Option<String>>,
     failed: RefCell<Option<Failed>>,
@@ -34,6 +35,13 @@ impl<'f, F: Files> WatchedFiles<'f, F> {
             opened: RefCell::new(None),
             failed: RefCell::new(None),
             reason: RefCell::new(None),
+        }
+    }
+
+    /// Remembers the path of the last that was opened, if there is memory for it.
+    fn keep_opened(&self, path: &str) {
+        if let Ok(mut opened) = self.opened.try_borrow_mut() {
+            *opened = String::from_str(self.alloc, path).ok();
         }
     }
 
@@ -90,10 +98,8 @@ impl<F: Files> Files for WatchedFiles<'_, F> {
 
     fn open_file(&self, how: &OpenOptions, path: &str) -> io::Result<F::File> {
         let given = self.files.open_file(how, path);
-        if given.is_ok()
-            && let Ok(mut opened) = self.opened.try_borrow_mut()
-        {
-            *opened = String::from_str(self.alloc, path).ok();
+        if given.is_ok() {
+            self.keep_opened(path);
         }
         self.note(path, given)
     }
@@ -132,6 +138,23 @@ impl<F: Files> Files for WatchedFiles<'_, F> {
 
     fn remove_dir_all<B: Allocator>(&self, alloc: B, path: &str) -> io::Result<()> {
         self.files.remove_dir_all(alloc, path)
+    }
+}
+
+impl<F: KnownFiles> KnownFiles for WatchedFiles<'_, F> {
+    ghost holds = { λ w. F.holds w.files.now };
+
+    fn open_to_read(&self, path: &str) -> io::Result<F::File> {
+        match self.files.open_to_read(path) {
+            Ok(file) => {
+                self.keep_opened(path);
+                Ok(file)
+            }
+            Err(error) => {
+                self.keep_failed(path, error);
+                Err(error)
+            }
+        }
     }
 }
 

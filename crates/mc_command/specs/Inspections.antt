@@ -1,14 +1,15 @@
 -- What a dump is, and where it occurs in a swap of two images.
-use Rattle.std.specs.Prelude.{Bool, List, None, Ok, Option, Some, codes, false, length, ℕ, ◌&&◌, ◌++◌, ◌≡◌, ◌≤◌, ◌⊎◌}
+use Rattle.std.specs.Prelude.{Bool, Err, List, None, Ok, Option, Some, codes, false, length, ℕ, ◌&&◌, ◌++◌, ◌^◌, ◌≡◌, ◌≤◌, ◌⊎◌}
 use Rattle.clap.specs.{Words.{first_value}, declared.parser.matches.Found.{Found as Words}}
 use Rattle.mc_actions.specs.Layouts.{yes_or_no}
 use Rattle.mc_boot.specs.declared.kind.Kind.{Kind}
+use Rattle.mc_cli.specs.Files.{Holds}
 use Rattle.mc_boot.specs.declared.kind.Kind.TheVariants as kinds
 use Rattle.mc_explore.specs.Rows.{subject}
 use Rattle.mc_flash.specs.{Flash.{Content}, Geometry.{Geometry}, declared.flash.FlashError.{FlashError}}
-use Rattle.mc_options.specs.{Arguments.{GivesLayout, GivesRules, kind_text}, Refusals.{GivesOne, IsOfFile, IsOfStart, LacksLayout, LacksOption, LacksRules}, Requests.{End, IsAnswered, IsDone, IsUnwritten}, declared.refusal.Refusal.{Refusal}}
+use Rattle.mc_options.specs.{Arguments.{GivesLayout, GivesRules, kind_text}, Refusals.{GivesOne, HasText, LacksLayout, LacksOption, LacksRules}, Requests.{End, IsAnswered, IsDone, IsUnwritten}, Sources.{Reads, RefusesFile}, declared.refusal.Refusal.{Refusal}}
 use Rattle.mc_options.specs.declared.refusal.Refusal.TheVariants as refusals
-use Rattle.mc_start.specs.{Start.{Started, Starts, begun}, declared.start.StartError.{StartError}}
+use Rattle.mc_start.specs.{Start.{Gives, Started, Starts, begun, of_flash}, declared.start.StartError.{StartError}}
 use Rattle.mc_trace.specs.Inspection.{inspection_text}
 use Rattle.mc_trace.specs.declared.error.TraceError.TheVariants as errors
 use Rattle.mc_trailer.specs.declared.tables.Rules.{Rules}
@@ -38,31 +39,64 @@ pub record IsFound (images : Images) (flash : Started) (found : Found) : Type 0 
   pub swap : IsSwapOf images flash.geometry flash.rules found.kind start
   pub nearest : IsNearest (begun start) (AtMost 16) flash.content found.located.schedule
 
--- The words give the layout of a dump, and the rules of the boots from there.
-pub record GivesDump (words : Words) (s : Started) : Type 0 where
+-- The words give the layout of a dump, its file, whose bytes it has, and the rules of the boots from there.
+abbrev pub IsOfDump : Holds → List ℕ → Started → Type 0
+IsOfDump holds path s = (bytes : List ℕ) × Reads (holds path) (2 ^ 25) bytes × (of_flash s.geometry bytes ≡ Ok s.content)
+
+pub record GivesDump (holds : Holds) (words : Words) (s : Started) : Type 0 where
   pub layout : GivesLayout words s.geometry
   pub rules : GivesRules words s.rules
+  pub bytes : HasText words (codes "flash") (λ path. IsOfDump holds path s)
+
+-- And two known images by their files, or none.
+abbrev pub GivesKnown : Holds → Words → Option Images → Type 0
+GivesKnown holds words None = (first_value words (codes "known-a") ≡ None) × (first_value words (codes "known-b") ≡ None)
+GivesKnown holds words (Some images) =
+    HasText words (codes "known-a") (λ path. Reads (holds path) (2 ^ 24) images.a.items)
+    × HasText words (codes "known-b") (λ path. Reads (holds path) (2 ^ 24) images.b.items)
 
 -- And what is asked of all schedules of at most 16 cuts from there.
-pub record GivesInspect (words : Words) (i : Inspected) : Type 0 where
-  pub dump : GivesDump words i.wanted.start
+pub record GivesInspect (holds : Holds) (words : Words) (i : Inspected) : Type 0 where
+  pub dump : GivesDump holds words i.wanted.start
+  pub images : GivesKnown holds words i.images
   pub asked : GivesAsked words i.wanted.asked
   pub judged : IsJudged i.wanted.asked i.wanted.start.geometry
   pub cuts : i.wanted.cuts ≡ 16
   pub plain : i.wanted.images_return ≡ false
 
+-- Where it occurs in their swaps is asked.
+pub record GivesLocate (holds : Holds) (words : Words) (l : LocateAsked) : Type 0 where
+  pub dump : GivesDump holds words l.flash
+  pub images : GivesKnown holds words (Some l.images)
+
 -- The words give no dump; of two known images one alone is named, or a file is not read; and why there is nothing to inspect, or to locate.
 abbrev pub LacksDump : Words → Refusal → Type 0
 LacksDump words e = (LacksLayout words e ⊎ LacksRules words e) ⊎ LacksOption words (codes "flash") e
 
-abbrev pub LacksKnown : Words → Refusal → Type 0
-LacksKnown words e = ((e ≡ refusals.Source) × GivesOne words (codes "known-a") (codes "known-b")) ⊎ IsOfFile e
+-- The file of an option is not read.
+abbrev pub IsUnread : Holds → Words → List ℕ → ℕ → Refusal → Type 0
+IsUnread holds words name limit e = HasText words name (λ path. RefusesFile (holds path) limit e)
 
-abbrev pub LacksInspect : Words → Refusal → Type 0
-LacksInspect words e = (LacksDump words e ⊎ LacksEnds words e) ⊎ ((NeverJudged words e ⊎ LacksKnown words e) ⊎ IsOfStart e)
+abbrev pub LacksKnown : Holds → Words → Refusal → Type 0
+LacksKnown holds words e =
+    ((e ≡ refusals.Source) × GivesOne words (codes "known-a") (codes "known-b"))
+    ⊎ (IsUnread holds words (codes "known-a") (2 ^ 24) e ⊎ IsUnread holds words (codes "known-b") (2 ^ 24) e)
 
-abbrev pub LacksLocate : Words → Refusal → Type 0
-LacksLocate words e = (LacksDump words e ⊎ LacksKnown words e) ⊎ (((e ≡ refusals.Source) × (first_value words (codes "known-a") ≡ None)) ⊎ IsOfStart e)
+-- The file of the dump is not read, or its bytes make no start.
+abbrev pub MakesNoStart : Holds → Geometry → List ℕ → Refusal → Type 0
+MakesNoStart holds g path e =
+    (bytes : List ℕ) × (error : StartError) × (e ≡ refusals.Start error) × Reads (holds path) (2 ^ 25) bytes × Gives g (Err error) (of_flash g bytes)
+
+abbrev pub FailsDump : Holds → Words → Refusal → Type 0
+FailsDump holds words e =
+    (g : Geometry) × GivesLayout words g × HasText words (codes "flash") (λ path. RefusesFile (holds path) (2 ^ 25) e ⊎ MakesNoStart holds g path e)
+
+abbrev pub LacksInspect : Holds → Words → Refusal → Type 0
+LacksInspect holds words e = (LacksDump words e ⊎ LacksEnds words e) ⊎ ((NeverJudged words e ⊎ LacksKnown holds words e) ⊎ FailsDump holds words e)
+
+abbrev pub LacksLocate : Holds → Words → Refusal → Type 0
+LacksLocate holds words e =
+    (LacksDump words e ⊎ LacksKnown holds words e) ⊎ (((e ≡ refusals.Source) × (first_value words (codes "known-a") ≡ None)) ⊎ FailsDump holds words e)
 
 -- What the slots would hold with the known images, if they are given.
 abbrev pub AreNamed : Inspected → Option Content → Type 0

@@ -3,6 +3,7 @@ use Rattle.std.specs.Prelude.{List, Option, [], min, ℕ, ◌+◌, ◌-◌, ◌<
 use Rattle.clap.specs.declared.parser.matches.Found.{Found}
 use Rattle.mc_actions.specs.{Schedules.{LacksScheduled}, declared.schedule.Scheduled.{Scheduled}}
 use Rattle.mc_boot.specs.Outcome.{Report}
+use Rattle.mc_cli.specs.Files.{Holds}
 use Rattle.mc_explore.specs.{Schedules.{IsReplayed, RefusesReplay}, declared.replays.ReplayError.{ReplayError}}
 use Rattle.mc_flash.specs.Flash.{Content}
 use Rattle.mc_options.specs.{Refusals.{LacksSpan}, Requests.{End, IsAnswered, IsDone}, declared.refusal.Refusal.{Refusal}}
@@ -21,8 +22,8 @@ rows_in span [] last = within span last
 rows_in span (cut ∷ cuts) last = within span (cut + 1) + rows_in span cuts last
 
 -- The words give none.
-abbrev pub LacksPicture : Found → Refusal → Type 0
-LacksPicture found e = (LacksEnds found e ⊎ LacksSpan found e) ⊎ LacksScheduled found e
+abbrev pub LacksPicture : Holds → Found → Refusal → Type 0
+LacksPicture holds found e = (LacksEnds found e ⊎ LacksSpan found e) ⊎ LacksScheduled holds found e
 
 -- The picture of a schedule, for what is expected of its slots.
 pub record Drawn (s : Scheduled) (ends : Ends) (span : Span) : Type 0 where

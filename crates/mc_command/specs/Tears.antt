@@ -1,8 +1,9 @@
 -- What is asked of torn operations, and how it is answered.
-use Rattle.std.specs.Prelude.{Err, List, None, Option, Some, codes, is_some, true, ℕ, ◌<◌, ◌≡◌, ◌⊎◌}
+use Rattle.std.specs.Prelude.{Err, List, None, Option, Some, codes, true, ℕ, ◌<◌, ◌≡◌, ◌⊎◌}
 use Rattle.clap.specs.{Words.{first_value}, declared.parser.matches.Found.{Found}}
-use Rattle.mc_actions.specs.{Schedules.{GivesScheduled, LacksScheduled}, Vectors.{IsNoErasing}, declared.schedule.Scheduled.{Scheduled}}
+use Rattle.mc_actions.specs.{Schedules.{GivesScheduled, IsFlashUnwritten, LacksScheduled}, Vectors.{IsNoErasing}, declared.schedule.Scheduled.{Scheduled}}
 use Rattle.mc_boot.specs.{Outcome.{after}, Plan.{again}}
+use Rattle.mc_cli.specs.Files.{Holds}
 use Rattle.mc_command.specs.{declared.tears.CaseFile.{CaseFile}, declared.tears.TearsAsked.{TearsAsked}}
 use Rattle.mc_explore.specs.{Schedules.{RefusesReplay}, declared.expectation.Expectation.{Expectation}, declared.replays.ReplayError.{ReplayError}}
 use Rattle.mc_explore.specs.declared.error.ExploreError.TheVariants as errors
@@ -13,7 +14,7 @@ use Rattle.mc_options.specs.declared.refusal.Refusal.TheVariants as refusals
 use Rattle.mc_start.specs.Start.{Started, begun}
 use Rattle.mc_tear.specs.{Readings.{reading_of, reading_text}, declared.torn.Erasing.{Erasing}}
 use Rattle.mc_tear.specs.declared.torn.Erasing.TheVariants as erasings
-use Rattle.mc_tears.specs.{Tears.{all_right, tears_text}, declared.error.TearError.{TearError}}
+use Rattle.mc_tears.specs.{Losses.{lost}, Tears.{all_right, tears_text}, declared.error.TearError.{TearError}, declared.loss.Loss.{Loss}}
 use Rattle.mc_tears.specs.declared.error.TearError.TheVariants as tear_errors
 use Rattle.mc_verdict.specs.{Sessions.{or_any}, Verdicts.{GivesAsked, IsExpectation, IsJudged, LacksEnds, NeverJudged, is_of_slots, verdict_of}, declared.verdict.Asked.{Asked}}
 use Rattle.std.specs.Prelude.{Ok}
@@ -34,9 +35,9 @@ GivesCase found None = first_value found (codes "out") ≡ None
 GivesCase found (Some c) = NamesCase found c
 
 -- The start is the flash at the last cut of the schedule that the words give, and that is expected at the end.
-pub record StartsAfter (found : Found) (asked : Asked) (s : Started) (e : Expectation) : Type 0 where
+pub record StartsAfter (holds : Holds) (found : Found) (asked : Asked) (s : Started) (e : Expectation) : Type 0 where
   pub given : Scheduled
-  pub gives : GivesScheduled found given
+  pub gives : GivesScheduled holds found given
   pub cut : Content
   pub cut_is : after (begun given.start) given.schedule ≡ Some cut
   pub start_is : begun s ≡ again (begun given.start) cut
@@ -44,7 +45,7 @@ pub record StartsAfter (found : Found) (asked : Asked) (s : Started) (e : Expect
   pub expects : IsExpectation asked given.start.named (Ok expected)
   pub expectation_is : e ≡ or_any expected
 
-pub record GivesTears (found : Found) (t : TearsAsked) : Type 0 where
+pub record GivesTears (holds : Holds) (found : Found) (t : TearsAsked) : Type 0 where
   pub layout : Geometry
   pub layout_given : GivesLayout found layout
   pub asked : GivesAsked found t.asked
@@ -52,7 +53,7 @@ pub record GivesTears (found : Found) (t : TearsAsked) : Type 0 where
   pub erasing : GivesErasing found t.torn.erasing
   pub all : IsFlag found (codes "all") t.torn.all
   pub file : GivesCase found t.file
-  pub start : StartsAfter found t.asked t.start t.torn.expectation
+  pub start : StartsAfter holds found t.asked t.start t.torn.expectation
 
 -- They give none of these: a text names no way in which an erase fails.
 abbrev pub LacksErasing : Found → Refusal → Type 0
@@ -68,22 +69,28 @@ LacksCase found e =
     ⊎ ((e ≡ refusals.Argument) × (GivesOne found (codes "at") (codes "reading") ⊎ GivesOne found (codes "reading") (codes "out")))
 
 -- The boot after the schedule is not found: what a slot is to hold is not known, or a cut can't occur, or an allocation failed.
-pub record LacksBoot (found : Found) (asked : Asked) (e : Refusal) : Type 0 where
+pub record LacksBoot (holds : Holds) (found : Found) (asked : Asked) (e : Refusal) : Type 0 where
   pub given : Scheduled
-  pub gives : GivesScheduled found given
+  pub gives : GivesScheduled holds found given
   pub fails : IsExpectation asked given.start.named (Err e) ⊎ ((error : ReplayError) × (e ≡ refusals.Replay error) × RefusesReplay (begun given.start) given.schedule error)
 
-abbrev pub LacksStartAfter : Found → Asked → Refusal → Type 0
-LacksStartAfter found asked e = LacksScheduled found e ⊎ (LacksBoot found asked e ⊎ (e ≡ refusals.Explore errors.Memory))
+abbrev pub LacksStartAfter : Holds → Found → Asked → Refusal → Type 0
+LacksStartAfter holds found asked e = LacksScheduled holds found e ⊎ (LacksBoot holds found asked e ⊎ (e ≡ refusals.Explore errors.Memory))
 
-abbrev pub LacksTears : Found → Refusal → Type 0
-LacksTears found e =
+abbrev pub LacksTears : Holds → Found → Refusal → Type 0
+LacksTears holds found e =
     ((LacksLayout found e ⊎ LacksEnds found e) ⊎ (NeverJudged found e ⊎ LacksErasing found e))
-    ⊎ (LacksCase found e ⊎ ((asked : Asked) × GivesAsked found asked × LacksStartAfter found asked e))
+    ⊎ (LacksCase found e ⊎ ((asked : Asked) × GivesAsked found asked × LacksStartAfter holds found asked e))
 
--- The flash of a case is to be written.
-abbrev pub HasFile : TearsAsked → Type 0
-HasFile t = is_some t.file ≡ true
+-- The flash of a case is to be written; why it is not: there is no such case, or its file fails, or an allocation.
+abbrev pub loss_of : CaseFile → Loss
+loss_of c = record { operation = c.number; within = Some c.reading }
+
+abbrev pub RefusesCase : TearsAsked → Refusal → Type 0
+RefusesCase t e =
+    (c : CaseFile) × (t.file ≡ Some c)
+    × (((e ≡ refusals.NoCase) × (lost t.torn.erasing (begun t.start) (loss_of c) ≡ None))
+    ⊎ (IsFlashUnwritten e ⊎ (e ≡ refusals.Explore errors.Memory)))
 
 -- Why tears are not shown.
 abbrev pub refused_as : TearError → Refusal
@@ -95,4 +102,4 @@ abbrev pub AnswersTears : TearsAsked → Option (List ℕ) → Option (List ℕ)
 AnswersTears t =
     IsAnswered (λ (_ : Unit {0}). tears_text t.torn (begun t.start))
     (λ _ end. end ≡ verdict_of t.asked.all_boot (is_of_slots t.asked) true (all_right t.torn (begun t.start)) true)
-    (λ e. (e ≡ refusals.Explore errors.Memory) ⊎ HasFile t) IsUnwritten
+    (λ e. (e ≡ refusals.Explore errors.Memory) ⊎ RefusesCase t e) IsUnwritten

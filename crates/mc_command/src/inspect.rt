@@ -1,13 +1,14 @@
 //! `inspect` and `locate`: what a dump of a device is, and where it occurs in a swap of two images.
-ghost use Rattle.std.specs.Prelude.{◌≡◌, ◌<◌, ◌≤◌, ◌&&◌, codes, length, IfErr, IfOk, IfSome, None, option_map};
+ghost use Rattle.std.specs.Prelude.{◌≡◌, ◌<◌, ◌≤◌, ◌&&◌, ◌^◌, ◌⊎◌, Some, codes, length, IfErr, IfOk, IfSome, None, option_map};
 ghost use Rattle.clap.specs.Matches.{found_of};
 ghost use Rattle.clap.specs.Words.{first_value};
-ghost use Rattle.mc_options.specs.Refusals.{IsOfStart};
+ghost use Rattle.mc_options.specs.Sources.{RefusesFile};
 ghost use Rattle.mc_options.specs.Arguments.{GivesLayout, GivesRules};
-ghost use Rattle.mc_command.specs.Inspections.{AnswersInspect, AnswersLocate, AreNamed, GivesDump, GivesInspect, IsFound, IsNearestOf, IsSwapOf, LacksDump, LacksInspect, LacksKnown, LacksLocate, RefusesNamed, first_of, second_of};
+ghost use Rattle.mc_command.specs.Inspections.{AnswersInspect, AnswersLocate, AreNamed, GivesInspect, GivesKnown, GivesLocate, IsFound, IsNearestOf, IsOfDump, IsSwapOf, LacksDump, LacksInspect, LacksKnown, LacksLocate, MakesNoStart, RefusesNamed, first_of, second_of};
 
 use clap::ArgMatches;
 use mc_actions::trailers::yes_or_no;
+use mc_cli::KnownFiles;
 use mc_explore::{Kind, Schedules, Start};
 use mc_flash::{FlashError, JournalFlash, Layout};
 use mc_options::{
@@ -22,7 +23,6 @@ use mc_verdict::Asked;
 use mc_verdict::census::{Wanted, conclude, count};
 use std::alloc::Global;
 use std::io::Write;
-use std::rt::Files;
 
 /// The most cuts that are looked through.
 const MOST_CUTS: u8 = 16;
@@ -51,14 +51,13 @@ impl Images {
     /// # Errors
     ///
     /// `Source` where they name one alone; what `read_file` refuses, of the first before the second.
-    fn read<F: Files>(
+    fn read<F: KnownFiles>(
         files: &F,
         alloc: Global,
         arguments: &ArgMatches<'_>,
     ) -> Result<Option<Images>, Refusal>
-        ensures none { IfOk result (λ images. images ≡ None
-            → first_value (found_of arguments.now) (codes "known-a") ≡ None) }
-        ensures refused { IfErr result (LacksKnown (found_of arguments.now)) }
+        ensures given { IfOk result (GivesKnown (F.holds files.now) (found_of arguments.now)) }
+        ensures refused { IfErr result (LacksKnown (F.holds files.now) (found_of arguments.now)) }
     {
         match (arguments.get_str("known-a"), arguments.get_str("known-b")) {
             (Some(a), Some(b)) => Ok(Some(Images {
@@ -111,6 +110,8 @@ impl<'a> Dump<'a> {
     fn named(arguments: &ArgMatches<'a>) -> Result<Dump<'a>, Refusal>
         ensures layout { IfOk result (λ d. GivesLayout (found_of arguments.now) d.layout) }
         ensures rules { IfOk result (λ d. GivesRules (found_of arguments.now) d.rules) }
+        ensures path { IfOk result (λ d. first_value (found_of arguments.now) (codes "flash")
+            ≡ Some d.path.now) }
         ensures refused { IfErr result (LacksDump (found_of arguments.now)) }
     {
         let layout = layout_options(arguments)?;
@@ -127,10 +128,13 @@ impl<'a> Dump<'a> {
     /// # Errors
     ///
     /// What `read_file` refuses; `Start` where they are not as many as both slots have.
-    fn read<F: Files>(&self, files: &F, alloc: Global) -> Result<Start, Refusal>
+    fn read<F: KnownFiles>(&self, files: &F, alloc: Global) -> Result<Start, Refusal>
         ensures layout { IfOk result (λ start. start.geometry ≡ self.now.layout) }
         ensures rules { IfOk result (λ start. start.rules ≡ self.now.rules) }
-        ensures refused { IfErr result IsOfStart }
+        ensures bytes { IfOk result (IsOfDump (F.holds files.now) self.now.path.now) }
+        ensures refused { let d = self.now in IfErr result (λ e. RefusesFile
+            (F.holds files.now d.path.now) (2 ^ 25) e
+            ⊎ MakesNoStart (F.holds files.now) d.layout d.path.now e) }
     {
         let bytes = read_file(files, alloc, self.path, GREATEST_FLASH)?;
         let start = Start::from_flash(alloc, &self.layout, bytes.as_slice())?;
@@ -150,13 +154,13 @@ pub struct Inspected {
 /// # Errors
 ///
 /// Those of `Dump::named` and `Asked::read`; `NeverSwaps`; those of `Images::read` and `Dump::read`.
-pub fn read<F: Files>(
+pub fn read<F: KnownFiles>(
     files: &F,
     alloc: Global,
     arguments: &ArgMatches<'_>,
 ) -> Result<Inspected, Refusal>
-    ensures given { IfOk result (GivesInspect (found_of arguments.now)) }
-    ensures refused { IfErr result (LacksInspect (found_of arguments.now)) }
+    ensures given { IfOk result (GivesInspect (F.holds files.now) (found_of arguments.now)) }
+    ensures refused { IfErr result (LacksInspect (F.holds files.now) (found_of arguments.now)) }
 {
     let dump = match Dump::named(arguments) {
         Ok(dump) => dump,
@@ -266,13 +270,13 @@ pub struct LocateAsked {
 /// # Errors
 ///
 /// Those of `Dump::named`, `Images::read` and `Dump::read`; `Source` where no images are given.
-pub fn read_locate<F: Files>(
+pub fn read_locate<F: KnownFiles>(
     files: &F,
     alloc: Global,
     arguments: &ArgMatches<'_>,
 ) -> Result<LocateAsked, Refusal>
-    ensures given { IfOk result (λ asked. GivesDump (found_of arguments.now) asked.flash) }
-    ensures refused { IfErr result (LacksLocate (found_of arguments.now)) }
+    ensures given { IfOk result (GivesLocate (F.holds files.now) (found_of arguments.now)) }
+    ensures refused { IfErr result (LacksLocate (F.holds files.now) (found_of arguments.now)) }
 {
     let dump = match Dump::named(arguments) {
         Ok(dump) => dump,

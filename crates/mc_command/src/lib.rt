@@ -1,10 +1,10 @@
 //! The commands of `mcsim`, over the image tool, the flashes and the boots, and the exit status of a command line.
 #![tactic(auto)]
 
-ghost use Rattle.std.specs.Prelude.{◌≤◌};
+ghost use Rattle.std.specs.Prelude.{◌≡◌, ◌≤◌, true};
 ghost use Rattle.clap.specs.Matches.{found_of};
 ghost use Rattle.mc_actions.specs.Lives.{AnswersLife, GivesLife, LacksLife};
-ghost use Rattle.mc_command.specs.Commands.{Answers, Asks, LacksNamed, Runs, RunsWhole};
+ghost use Rattle.mc_command.specs.Commands.{Answers, Asks, FollowsText, LacksNamed, Runs, RunsWhole};
 ghost use Rattle.mc_options.specs.Requests.{IsRun};
 
 mod inspect;
@@ -16,15 +16,14 @@ use clap::error::ErrorKind;
 use clap::{ArgMatches, Error};
 pub use inspect::{Inspected, LocateAsked};
 use mc_actions::{explain, life};
+pub use mc_cli::KnownFiles;
 use mc_cli::{WatchedFiles, WatchedWriter, left_out, parse};
 use mc_options::{
     Refusal, asks_file, flush, print_cost, print_note, report_file, report_reason, with_files,
 };
-use mc_output::WriteFailed;
 pub use request::{Command, Request};
 use std::alloc::Global;
 use std::io::{Read, Write};
-use std::rt::Files;
 pub use tears::TearsAsked;
 
 /// Runs one command line, whose first word is the program's name, and returns the exit status: 0 where it is done, 1
@@ -32,7 +31,7 @@ pub use tears::TearsAsked;
 ///
 /// What a buffer holds of `out` is handed on before it returns. A refusal is one line on `err`, or clap's own text; with `--verbose` a second line has its reason, where that is known. A failed
 /// write to `err` changes no status.
-pub fn run<F: Files, R: Read, O: Write, E: Write>(
+pub fn run<F: KnownFiles, R: Read, O: Write, E: Write>(
     files: &F,
     alloc: Global,
     words: &[String],
@@ -59,7 +58,7 @@ pub fn run<F: Files, R: Read, O: Write, E: Write>(
 }
 
 /// Runs one command line without `--layout`.
-fn run_words<F: Files, R: Read, O: Write, E: Write>(
+fn run_words<F: KnownFiles, R: Read, O: Write, E: Write>(
     files: WatchedFiles<'_, F>,
     alloc: Global,
     words: &[String],
@@ -131,12 +130,23 @@ fn left_out_of(words: &[String]) -> Option<(&'static str, &'static str)> {
     }
 }
 
+/// Whether all of a command's text was out before it ended so: it was done, or a verdict on the text is refused, or an event of a life.
+fn follows_text(done: &Result<(), Refusal>) -> bool
+    ensures { result ≡ true → FollowsText done.now }
+{
+    matches!(
+        done,
+        Ok(())
+            | Err(Refusal::NotAllBoot | Refusal::NotAllRight | Refusal::NotWhole | Refusal::Life(_))
+    )
+}
+
 /// Runs the command of that name, and hands on what a buffer holds of its text, also before a refusal is told.
 ///
 /// # Errors
 ///
-/// Those of the command; `Write` where it is done, and the rest of its text cannot be handed on.
-pub fn run_whole<F: Files, R: Read, O: Write, E: Write>(
+/// Those of the command; `Write` in place of what follows its text, where the rest of that cannot be handed on.
+pub fn run_whole<F: KnownFiles, R: Read, O: Write, E: Write>(
     files: &WatchedFiles<'_, F>,
     alloc: Global,
     name: &str,
@@ -145,14 +155,15 @@ pub fn run_whole<F: Files, R: Read, O: Write, E: Write>(
     out: &mut O,
     err: &mut E,
 ) -> Result<(), Refusal>
-    ensures { RunsWhole name.now (found_of arguments.now) (R.remaining input.old)
+    ensures { RunsWhole name.now (F.holds files.now.files.now) (found_of arguments.now)
+        (R.remaining input.old)
         (O.contents out.old) (O.contents out.new) result }
 {
     let done = run_command(files, alloc, name, arguments, input, out, err);
-    match (done, flush(out)) {
-        (Ok(()), Err(WriteFailed)) => Err(Refusal::Write),
-        (done, _) => done,
+    if flush(out).is_err() && follows_text(&done) {
+        return Err(Refusal::Write);
     }
+    done
 }
 
 /// Runs the command of that name.
@@ -160,7 +171,7 @@ pub fn run_whole<F: Files, R: Read, O: Write, E: Write>(
 /// # Errors
 ///
 /// Those of the command.
-fn run_command<F: Files, R: Read, O: Write, E: Write>(
+fn run_command<F: KnownFiles, R: Read, O: Write, E: Write>(
     files: &WatchedFiles<'_, F>,
     alloc: Global,
     name: &str,
@@ -169,7 +180,8 @@ fn run_command<F: Files, R: Read, O: Write, E: Write>(
     out: &mut O,
     err: &mut E,
 ) -> Result<(), Refusal>
-    ensures { Runs name.now (found_of arguments.now) (R.remaining input.old)
+    ensures { Runs name.now (F.holds files.now.files.now) (found_of arguments.now)
+        (R.remaining input.old)
         (O.contents out.old) (O.contents out.new) result }
 {
     match name {
@@ -184,7 +196,7 @@ fn run_command<F: Files, R: Read, O: Write, E: Write>(
 /// # Errors
 ///
 /// `Argument` where no such command has that name; those of `Request::read` and `Request::answer`.
-pub fn run_request<F: Files, R: Read, O: Write, E: Write>(
+pub fn run_request<F: KnownFiles, R: Read, O: Write, E: Write>(
     files: &WatchedFiles<'_, F>,
     alloc: Global,
     name: &str,
@@ -193,9 +205,10 @@ pub fn run_request<F: Files, R: Read, O: Write, E: Write>(
     out: &mut O,
     err: &mut E,
 ) -> Result<(), Refusal>
-    ensures { IsRun (Asks name.now (found_of arguments.now))
-        (LacksNamed name.now (found_of arguments.now))
-        (λ request. Answers request (R.remaining input.old)) (O.contents out.old)
+    ensures { IsRun (Asks name.now (F.holds files.now.files.now) (found_of arguments.now))
+        (LacksNamed name.now (F.holds files.now.files.now) (found_of arguments.now))
+        (λ request. Answers request (F.holds files.now.files.now) (R.remaining input.old))
+        (O.contents out.old)
         (O.contents out.new) result }
 {
     let Some(command) = Command::named(name) else {
@@ -210,14 +223,16 @@ pub fn run_request<F: Files, R: Read, O: Write, E: Write>(
 /// # Errors
 ///
 /// Those of `life::read` and `life::answer`.
-fn run_life<F: Files, R: Read, O: Write>(
+fn run_life<F: KnownFiles, R: Read, O: Write>(
     files: &WatchedFiles<'_, F>,
     alloc: Global,
     arguments: &ArgMatches<'_>,
     input: &mut R,
     out: &mut O,
 ) -> Result<(), Refusal>
-    ensures { IsRun (GivesLife (found_of arguments.now)) (LacksLife (found_of arguments.now))
+    ensures { IsRun (GivesLife (F.holds files.now.files.now) (R.remaining input.old)
+        (found_of arguments.now))
+        (LacksLife (F.holds files.now.files.now) (R.remaining input.old) (found_of arguments.now))
         AnswersLife (O.contents out.old) (O.contents out.new) result }
 {
     let life = life::read(files, alloc, arguments, input)?;

@@ -8,6 +8,7 @@ ghost use Rattle.mc_verdict.specs.Verdicts.{GivesEnds};
 
 use clap::ArgMatches;
 use mc_actions::schedule::{Scheduled, read_schedule};
+use mc_cli::KnownFiles;
 use mc_explore::replay;
 use mc_flash::JournalFlash;
 use mc_options::{Refusal, span_options};
@@ -15,7 +16,6 @@ use mc_trace::{Span, write_picture};
 use mc_verdict::Ends;
 use std::alloc::Global;
 use std::io::Write;
-use std::rt::Files;
 
 /// The most operations that a picture shows.
 const MOST_ROWS: u64 = 20_000;
@@ -62,15 +62,16 @@ fn check_rows(span: Span, cuts: &[u32], last: u32) -> Result<(), Refusal>
 /// # Errors
 ///
 /// What `Ends::read`, `span_options` and `read_schedule` refuse.
-pub fn read<F: Files>(
+pub fn read<F: KnownFiles>(
     files: &F,
     alloc: Global,
     arguments: &ArgMatches<'_>,
 ) -> Result<(Scheduled, Ends, Span), Refusal>
-    ensures schedule { IfOk result (λ asked. GivesScheduled (found_of arguments.now) asked.0) }
+    ensures schedule { IfOk result (λ asked. GivesScheduled (F.holds files.now)
+        (found_of arguments.now) asked.0) }
     ensures ends { IfOk result (λ asked. GivesEnds (found_of arguments.now) asked.1) }
     ensures span { IfOk result (λ asked. GivesSpan (found_of arguments.now) asked.2) }
-    ensures refused { IfErr result (LacksPicture (found_of arguments.now)) }
+    ensures refused { IfErr result (LacksPicture (F.holds files.now) (found_of arguments.now)) }
 {
     let ends = Ends::read(arguments)?;
     let span = span_options(arguments)?;

@@ -1,6 +1,7 @@
 //! What a command is asked for, and its answer.
 ghost use Rattle.std.specs.Prelude.{◌≡◌, IfErr, IfOk, MatchOption, codes};
 ghost use Rattle.clap.specs.Matches.{found_of};
+ghost use Rattle.mc_cli.specs.Files.{Holds};
 ghost use Rattle.mc_command.specs.Commands.{Answers, Asks, IsBounded, Lacks, command_name};
 
 use crate::inspect::{Inspected, LocateAsked};
@@ -14,7 +15,7 @@ use mc_actions::schedule::{Outputs, Scheduled};
 use mc_actions::vectors::VectorsAsked;
 use mc_actions::{create, dumpinfo, layout, replay, rounds, trace, trailers, vectors, verify};
 use mc_campaign::{Campaign, CampaignCursor, Campaigns};
-use mc_cli::WatchedFiles;
+use mc_cli::{KnownFiles, WatchedFiles};
 use mc_explore::{Cursor, Schedule, Schedules, Start};
 use mc_flash::Layout;
 use mc_options::{Refusal, has_two_rounds, span_options, view_options};
@@ -24,7 +25,6 @@ use mc_verdict::explore::Exploration;
 use mc_verdict::{Asked, Ends, census, explore};
 use std::alloc::Global;
 use std::io::{Read, Write};
-use std::rt::Files;
 
 /// A command whose words alone, and the files that they name, say what is asked.
 #[derive(Clone, Copy, Debug)]
@@ -132,15 +132,17 @@ impl<'p> Request<'p> {
     /// # Errors
     ///
     /// What refuses the words or their files.
-    pub fn read<F: Files>(
+    pub fn read<F: KnownFiles>(
         files: &F,
         alloc: Global,
         command: Command,
         arguments: &ArgMatches<'p>,
     ) -> Result<Request<'p>, Refusal>
-        ensures asks { IfOk result (Asks (command_name command) (found_of arguments.now)) }
+        ensures asks { IfOk result (Asks (command_name command) (F.holds files.now)
+            (found_of arguments.now)) }
         ensures bounded { IfOk result IsBounded }
-        ensures refused { IfErr result (Lacks command (found_of arguments.now)) }
+        ensures refused { IfErr result (Lacks command (F.holds files.now)
+            (found_of arguments.now)) }
     {
         match command {
             Command::Create => read_create(arguments),
@@ -169,7 +171,7 @@ impl<'p> Request<'p> {
     /// # Errors
     ///
     /// Those of its command.
-    pub fn answer<F: Files, R: Read, O: Write, E: Write>(
+    pub fn answer<F: KnownFiles, R: Read, O: Write, E: Write>(
         &self,
         files: &WatchedFiles<'_, F>,
         alloc: Global,
@@ -178,7 +180,8 @@ impl<'p> Request<'p> {
         err: &mut E,
     ) -> Result<(), Refusal>
         requires { IsBounded self.now }
-        ensures { Answers self.now (R.remaining input.old) (O.contents out.old)
+        ensures { Answers self.now (F.holds files.now.files.now) (R.remaining input.old)
+            (O.contents out.old)
             (O.contents out.new) result }
     {
         match self {
@@ -223,9 +226,11 @@ impl<'p> Request<'p> {
 ///
 /// Those of `Creation::read`.
 fn read_create<'p>(arguments: &ArgMatches<'p>) -> Result<Request<'p>, Refusal>
-    ensures asks { IfOk result (Asks (codes "create") (found_of arguments.now)) }
+    ensures asks { (holds : Holds) → IfOk result (Asks (codes "create") holds
+        (found_of arguments.now)) }
     ensures bounded { IfOk result IsBounded }
-    ensures refused { IfErr result (Lacks Command.Create (found_of arguments.now)) }
+    ensures refused { (holds : Holds) → IfErr result (Lacks Command.Create holds
+        (found_of arguments.now)) }
 {
     let creation = Creation::read(arguments)?;
     Ok(Request::Create(creation))
@@ -233,7 +238,8 @@ fn read_create<'p>(arguments: &ArgMatches<'p>) -> Result<Request<'p>, Refusal>
 
 /// What `dumpinfo` is asked for.
 fn read_dumpinfo<'p>(arguments: &ArgMatches<'p>) -> Request<'p>
-    ensures asks { Asks (codes "dumpinfo") (found_of arguments.now) result }
+    ensures asks { (holds : Holds) → Asks (codes "dumpinfo") holds
+        (found_of arguments.now) result }
     ensures bounded { IsBounded result }
 {
     let named = arguments.get_flag("verbose");
@@ -246,9 +252,11 @@ fn read_dumpinfo<'p>(arguments: &ArgMatches<'p>) -> Request<'p>
 ///
 /// Those of `layout::read`.
 fn read_layout<'p>(arguments: &ArgMatches<'p>) -> Result<Request<'p>, Refusal>
-    ensures asks { IfOk result (Asks (codes "layout") (found_of arguments.now)) }
+    ensures asks { (holds : Holds) → IfOk result (Asks (codes "layout") holds
+        (found_of arguments.now)) }
     ensures bounded { IfOk result IsBounded }
-    ensures refused { IfErr result (Lacks Command.Layout (found_of arguments.now)) }
+    ensures refused { (holds : Holds) → IfErr result (Lacks Command.Layout holds
+        (found_of arguments.now)) }
 {
     let (layout, times) = layout::read(arguments)?;
     Ok(Request::Layout(layout, times))
@@ -259,14 +267,16 @@ fn read_layout<'p>(arguments: &ArgMatches<'p>) -> Result<Request<'p>, Refusal>
 /// # Errors
 ///
 /// Those of `trailers::read`.
-fn read_type<'p, F: Files>(
+fn read_type<'p, F: KnownFiles>(
     files: &F,
     alloc: Global,
     arguments: &ArgMatches<'p>,
 ) -> Result<Request<'p>, Refusal>
-    ensures asks { IfOk result (Asks (codes "type") (found_of arguments.now)) }
+    ensures asks { IfOk result (Asks (codes "type") (F.holds files.now)
+        (found_of arguments.now)) }
     ensures bounded { IfOk result IsBounded }
-    ensures refused { IfErr result (Lacks Command.Type (found_of arguments.now)) }
+    ensures refused { IfErr result (Lacks Command.Type (F.holds files.now)
+        (found_of arguments.now)) }
 {
     let start = trailers::read(files, alloc, arguments)?;
     Ok(Request::Type(start))
@@ -277,14 +287,16 @@ fn read_type<'p, F: Files>(
 /// # Errors
 ///
 /// Those of `replay::read_boot`.
-fn read_boot<'p, F: Files>(
+fn read_boot<'p, F: KnownFiles>(
     files: &F,
     alloc: Global,
     arguments: &ArgMatches<'p>,
 ) -> Result<Request<'p>, Refusal>
-    ensures asks { IfOk result (Asks (codes "boot") (found_of arguments.now)) }
+    ensures asks { IfOk result (Asks (codes "boot") (F.holds files.now)
+        (found_of arguments.now)) }
     ensures bounded { IfOk result IsBounded }
-    ensures refused { IfErr result (Lacks Command.Boot (found_of arguments.now)) }
+    ensures refused { IfErr result (Lacks Command.Boot (F.holds files.now)
+        (found_of arguments.now)) }
 {
     let (given, outputs) = replay::read_boot(files, alloc, arguments)?;
     Ok(Request::Replay(given, outputs))
@@ -295,14 +307,16 @@ fn read_boot<'p, F: Files>(
 /// # Errors
 ///
 /// `Argument`; those of `replay::read` and `rounds::read`.
-fn read_replay<'p, F: Files>(
+fn read_replay<'p, F: KnownFiles>(
     files: &F,
     alloc: Global,
     arguments: &ArgMatches<'p>,
 ) -> Result<Request<'p>, Refusal>
-    ensures asks { IfOk result (Asks (codes "replay") (found_of arguments.now)) }
+    ensures asks { IfOk result (Asks (codes "replay") (F.holds files.now)
+        (found_of arguments.now)) }
     ensures bounded { IfOk result IsBounded }
-    ensures refused { IfErr result (Lacks Command.Replay (found_of arguments.now)) }
+    ensures refused { IfErr result (Lacks Command.Replay (F.holds files.now)
+        (found_of arguments.now)) }
 {
     if has_two_rounds(arguments)? {
         let given = rounds::read(files, alloc, arguments)?;
@@ -317,14 +331,16 @@ fn read_replay<'p, F: Files>(
 /// # Errors
 ///
 /// `Argument`; those of `span_options`, `trace::read` and `rounds::read`.
-fn read_trace<'p, F: Files>(
+fn read_trace<'p, F: KnownFiles>(
     files: &F,
     alloc: Global,
     arguments: &ArgMatches<'p>,
 ) -> Result<Request<'p>, Refusal>
-    ensures asks { IfOk result (Asks (codes "trace") (found_of arguments.now)) }
+    ensures asks { IfOk result (Asks (codes "trace") (F.holds files.now)
+        (found_of arguments.now)) }
     ensures bounded { IfOk result IsBounded }
-    ensures refused { IfErr result (Lacks Command.Trace (found_of arguments.now)) }
+    ensures refused { IfErr result (Lacks Command.Trace (F.holds files.now)
+        (found_of arguments.now)) }
 {
     if has_two_rounds(arguments)? {
         let text = RoundText::Operations(span_options(arguments)?);
@@ -339,14 +355,16 @@ fn read_trace<'p, F: Files>(
 /// # Errors
 ///
 /// `Argument`; those of `view_options`, `trace::read_sectors` and `rounds::read`.
-fn read_sectors<'p, F: Files>(
+fn read_sectors<'p, F: KnownFiles>(
     files: &F,
     alloc: Global,
     arguments: &ArgMatches<'p>,
 ) -> Result<Request<'p>, Refusal>
-    ensures asks { IfOk result (Asks (codes "sectors") (found_of arguments.now)) }
+    ensures asks { IfOk result (Asks (codes "sectors") (F.holds files.now)
+        (found_of arguments.now)) }
     ensures bounded { IfOk result IsBounded }
-    ensures refused { IfErr result (Lacks Command.Sectors (found_of arguments.now)) }
+    ensures refused { IfErr result (Lacks Command.Sectors (F.holds files.now)
+        (found_of arguments.now)) }
 {
     if has_two_rounds(arguments)? {
         let text = RoundText::Sectors(view_options(arguments)?);
@@ -361,14 +379,16 @@ fn read_sectors<'p, F: Files>(
 /// # Errors
 ///
 /// Those of `picture::read`.
-fn read_picture<'p, F: Files>(
+fn read_picture<'p, F: KnownFiles>(
     files: &F,
     alloc: Global,
     arguments: &ArgMatches<'p>,
 ) -> Result<Request<'p>, Refusal>
-    ensures asks { IfOk result (Asks (codes "picture") (found_of arguments.now)) }
+    ensures asks { IfOk result (Asks (codes "picture") (F.holds files.now)
+        (found_of arguments.now)) }
     ensures bounded { IfOk result IsBounded }
-    ensures refused { IfErr result (Lacks Command.Picture (found_of arguments.now)) }
+    ensures refused { IfErr result (Lacks Command.Picture (F.holds files.now)
+        (found_of arguments.now)) }
 {
     let (given, ends, span) = picture::read(files, alloc, arguments)?;
     Ok(Request::Picture(given, ends, span))
@@ -379,14 +399,16 @@ fn read_picture<'p, F: Files>(
 /// # Errors
 ///
 /// Those of `tears::read`.
-fn read_tears<'p, F: Files>(
+fn read_tears<'p, F: KnownFiles>(
     files: &F,
     alloc: Global,
     arguments: &ArgMatches<'p>,
 ) -> Result<Request<'p>, Refusal>
-    ensures asks { IfOk result (Asks (codes "tears") (found_of arguments.now)) }
+    ensures asks { IfOk result (Asks (codes "tears") (F.holds files.now)
+        (found_of arguments.now)) }
     ensures bounded { IfOk result IsBounded }
-    ensures refused { IfErr result (Lacks Command.Tears (found_of arguments.now)) }
+    ensures refused { IfErr result (Lacks Command.Tears (F.holds files.now)
+        (found_of arguments.now)) }
 {
     let asked = tears::read(files, alloc, arguments)?;
     Ok(Request::Tears(asked))
@@ -397,14 +419,16 @@ fn read_tears<'p, F: Files>(
 /// # Errors
 ///
 /// Those of `vectors::read`.
-fn read_vectors<'p, F: Files>(
+fn read_vectors<'p, F: KnownFiles>(
     files: &F,
     alloc: Global,
     arguments: &ArgMatches<'p>,
 ) -> Result<Request<'p>, Refusal>
-    ensures asks { IfOk result (Asks (codes "vectors") (found_of arguments.now)) }
+    ensures asks { IfOk result (Asks (codes "vectors") (F.holds files.now)
+        (found_of arguments.now)) }
     ensures bounded { IfOk result IsBounded }
-    ensures refused { IfErr result (Lacks Command.Vectors (found_of arguments.now)) }
+    ensures refused { IfErr result (Lacks Command.Vectors (F.holds files.now)
+        (found_of arguments.now)) }
 {
     let asked = vectors::read(files, alloc, arguments)?;
     Ok(Request::Vectors(asked))
@@ -415,14 +439,16 @@ fn read_vectors<'p, F: Files>(
 /// # Errors
 ///
 /// Those of `inspect::read`.
-fn read_inspect<'p, F: Files>(
+fn read_inspect<'p, F: KnownFiles>(
     files: &F,
     alloc: Global,
     arguments: &ArgMatches<'p>,
 ) -> Result<Request<'p>, Refusal>
-    ensures asks { IfOk result (Asks (codes "inspect") (found_of arguments.now)) }
+    ensures asks { IfOk result (Asks (codes "inspect") (F.holds files.now)
+        (found_of arguments.now)) }
     ensures bounded { IfOk result IsBounded }
-    ensures refused { IfErr result (Lacks Command.Inspect (found_of arguments.now)) }
+    ensures refused { IfErr result (Lacks Command.Inspect (F.holds files.now)
+        (found_of arguments.now)) }
 {
     let asked = inspect::read(files, alloc, arguments)?;
     Ok(Request::Inspect(asked))
@@ -433,14 +459,16 @@ fn read_inspect<'p, F: Files>(
 /// # Errors
 ///
 /// Those of `inspect::read_locate`.
-fn read_locate<'p, F: Files>(
+fn read_locate<'p, F: KnownFiles>(
     files: &F,
     alloc: Global,
     arguments: &ArgMatches<'p>,
 ) -> Result<Request<'p>, Refusal>
-    ensures asks { IfOk result (Asks (codes "locate") (found_of arguments.now)) }
+    ensures asks { IfOk result (Asks (codes "locate") (F.holds files.now)
+        (found_of arguments.now)) }
     ensures bounded { IfOk result IsBounded }
-    ensures refused { IfErr result (Lacks Command.Locate (found_of arguments.now)) }
+    ensures refused { IfErr result (Lacks Command.Locate (F.holds files.now)
+        (found_of arguments.now)) }
 {
     let asked = inspect::read_locate(files, alloc, arguments)?;
     Ok(Request::Locate(asked))
@@ -451,14 +479,16 @@ fn read_locate<'p, F: Files>(
 /// # Errors
 ///
 /// Those of `explore::ask`.
-fn read_explore<'p, F: Files>(
+fn read_explore<'p, F: KnownFiles>(
     files: &F,
     alloc: Global,
     arguments: &ArgMatches<'p>,
 ) -> Result<Request<'p>, Refusal>
-    ensures asks { IfOk result (Asks (codes "explore") (found_of arguments.now)) }
+    ensures asks { IfOk result (Asks (codes "explore") (F.holds files.now)
+        (found_of arguments.now)) }
     ensures bounded { IfOk result IsBounded }
-    ensures refused { IfErr result (Lacks Command.Explore (found_of arguments.now)) }
+    ensures refused { IfErr result (Lacks Command.Explore (F.holds files.now)
+        (found_of arguments.now)) }
 {
     let (asked, page) = explore::ask::<Schedules, F>(files, alloc, arguments)?;
     Ok(Request::Explore(asked, page))
@@ -469,14 +499,16 @@ fn read_explore<'p, F: Files>(
 /// # Errors
 ///
 /// Those of `explore::ask`.
-fn read_campaign<'p, F: Files>(
+fn read_campaign<'p, F: KnownFiles>(
     files: &F,
     alloc: Global,
     arguments: &ArgMatches<'p>,
 ) -> Result<Request<'p>, Refusal>
-    ensures asks { IfOk result (Asks (codes "campaign") (found_of arguments.now)) }
+    ensures asks { IfOk result (Asks (codes "campaign") (F.holds files.now)
+        (found_of arguments.now)) }
     ensures bounded { IfOk result IsBounded }
-    ensures refused { IfErr result (Lacks Command.Campaign (found_of arguments.now)) }
+    ensures refused { IfErr result (Lacks Command.Campaign (F.holds files.now)
+        (found_of arguments.now)) }
 {
     let (asked, page) = explore::ask::<Campaigns, F>(files, alloc, arguments)?;
     Ok(Request::Campaigns(asked, page))
@@ -487,14 +519,16 @@ fn read_campaign<'p, F: Files>(
 /// # Errors
 ///
 /// `Argument`; those of `explore::ask`.
-fn read_survey<'p, F: Files>(
+fn read_survey<'p, F: KnownFiles>(
     files: &F,
     alloc: Global,
     arguments: &ArgMatches<'p>,
 ) -> Result<Request<'p>, Refusal>
-    ensures asks { IfOk result (Asks (codes "survey") (found_of arguments.now)) }
+    ensures asks { IfOk result (Asks (codes "survey") (F.holds files.now)
+        (found_of arguments.now)) }
     ensures bounded { IfOk result IsBounded }
-    ensures refused { IfErr result (Lacks Command.Survey (found_of arguments.now)) }
+    ensures refused { IfErr result (Lacks Command.Survey (F.holds files.now)
+        (found_of arguments.now)) }
 {
     if has_two_rounds(arguments)? {
         let (asked, page) = explore::ask::<Campaigns, F>(files, alloc, arguments)?;
@@ -509,14 +543,16 @@ fn read_survey<'p, F: Files>(
 /// # Errors
 ///
 /// `Argument`; those of `census::read`.
-fn read_census<'p, F: Files>(
+fn read_census<'p, F: KnownFiles>(
     files: &F,
     alloc: Global,
     arguments: &ArgMatches<'p>,
 ) -> Result<Request<'p>, Refusal>
-    ensures asks { IfOk result (Asks (codes "census") (found_of arguments.now)) }
+    ensures asks { IfOk result (Asks (codes "census") (F.holds files.now)
+        (found_of arguments.now)) }
     ensures bounded { IfOk result IsBounded }
-    ensures refused { IfErr result (Lacks Command.Census (found_of arguments.now)) }
+    ensures refused { IfErr result (Lacks Command.Census (F.holds files.now)
+        (found_of arguments.now)) }
 {
     if has_two_rounds(arguments)? {
         let wanted = census::read::<Campaigns, F>(files, alloc, arguments)?;

@@ -1,12 +1,12 @@
 //! `tears`: what power that is lost within an operation of a boot leads to.
-ghost use Rattle.std.specs.Prelude.{◌≡◌, IfErr, IfOk, OnErr};
+ghost use Rattle.std.specs.Prelude.{◌≡◌, IfErr, IfOk};
 ghost use Rattle.clap.specs.Matches.{found_of};
-ghost use Rattle.mc_command.specs.Tears.{AnswersTears, GivesCase, GivesErasing, GivesTears, HasFile, LacksCase, LacksErasing, LacksStartAfter, LacksTears, StartsAfter, refused_as};
+ghost use Rattle.mc_command.specs.Tears.{AnswersTears, GivesCase, GivesErasing, GivesTears, LacksCase, LacksErasing, LacksStartAfter, LacksTears, RefusesCase, StartsAfter, refused_as};
 
 use clap::ArgMatches;
 use mc_actions::replay::write_file;
 use mc_actions::schedule::read_schedule;
-use mc_cli::WatchedFiles;
+use mc_cli::{KnownFiles, WatchedFiles};
 use mc_explore::{Expectation, ExploreError, Start, flash_at_cut};
 use mc_flash::JournalFlash;
 use mc_options::{NumberOption, Refusal, layout_options};
@@ -91,15 +91,17 @@ pub struct TearsAsked<'p> {
 /// # Errors
 ///
 /// What `read_schedule` refuses; `Expectation`; `Replay` where a cut can't occur; `Memory`.
-fn start_after<F: Files>(
+fn start_after<F: KnownFiles>(
     files: &F,
     alloc: Global,
     arguments: &ArgMatches<'_>,
     asked: &Asked,
 ) -> Result<(Start, Expectation), Refusal>
-    ensures given { IfOk result (λ given. StartsAfter (found_of arguments.now) asked.now given.0
+    ensures given { IfOk result (λ given. StartsAfter (F.holds files.now) (found_of arguments.now)
+        asked.now given.0
         given.1) }
-    ensures refused { IfErr result (LacksStartAfter (found_of arguments.now) asked.now) }
+    ensures refused { IfErr result (LacksStartAfter (F.holds files.now) (found_of arguments.now)
+        asked.now) }
 {
     let given = read_schedule(files, alloc, arguments)?;
     let expectation = asked.expectation(given.start.named())?;
@@ -115,13 +117,13 @@ fn start_after<F: Files>(
 /// # Errors
 ///
 /// `Layout`, `Version`, `NeverSwaps`, `Number` and `NoReading` of the words; `Argument`; those of `start_after`.
-pub fn read<'p, F: Files>(
+pub fn read<'p, F: KnownFiles>(
     files: &F,
     alloc: Global,
     arguments: &ArgMatches<'p>,
 ) -> Result<TearsAsked<'p>, Refusal>
-    ensures given { IfOk result (GivesTears (found_of arguments.now)) }
-    ensures refused { IfErr result (LacksTears (found_of arguments.now)) }
+    ensures given { IfOk result (GivesTears (F.holds files.now) (found_of arguments.now)) }
+    ensures refused { IfErr result (LacksTears (F.holds files.now) (found_of arguments.now)) }
 {
     let layout = layout_options(arguments)?;
     let asked = Asked::read(arguments)?;
@@ -153,7 +155,7 @@ impl TearsAsked<'_> {
         files: &WatchedFiles<'_, F>,
         alloc: Global,
     ) -> Result<(), Refusal>
-        ensures { OnErr result (HasFile self.now) }
+        ensures { IfErr result (RefusesCase self.now) }
     {
         let Some(case) = &self.file else {
             return Ok(());

@@ -1,12 +1,13 @@
 //! Files and streams that fail once.
 use crate::failing::{Failure, Fault};
 use crate::named;
+use mc_cli::KnownFiles;
 use std::alloc::Allocator;
 use std::cell::RefCell;
 use std::fs::{Metadata, OpenFile, OpenOptions};
-use std::io;
 use std::io::{Read, Seek, SeekFrom, Write};
 use std::rt::Files;
+use std::{fs, io};
 
 /// A file, or a stream, that moves one byte a call, and fails once.
 #[derive(Drop)]
@@ -148,5 +149,16 @@ impl<'a> Files for FaultyFiles<'a> {
 
     fn remove_dir_all<B: Allocator>(&self, _alloc: B, _path: &str) -> io::Result<()> {
         unsupported()
+    }
+}
+
+impl<'a> KnownFiles for FaultyFiles<'a> {
+    ghost use Rattle.std.specs.Prelude.{None};
+
+    // A read of `in` may fail.
+    ghost holds = { λ _ _. None };
+
+    fn open_to_read(&self, path: &str) -> io::Result<FaultyFile<'a>> {
+        fs::open(self, path)
     }
 }

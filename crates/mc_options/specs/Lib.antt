@@ -4,3 +4,4 @@ pub mod Statuses
 pub mod Sources
 pub mod Refusals
 pub mod Requests
+pub mod Outfiles

@@ -1,4 +1,4 @@
--- Why the words of a command line give nothing, each reason with its refusal; and why a file, or what its bytes make, is refused.
+-- Why the words of a command line give nothing, each reason with its refusal.
 use Rattle.std.specs.Prelude.{List, None, Some, codes, is_some, true, unwrap_or, ℕ, ◌||◌, ◌≡◌, ◌⊎◌}
 use Rattle.clap.specs.{Words.{first_value}, declared.parser.matches.Found.{Found}}
 use Rattle.mc_campaign.specs.Texts.{IsCampaign, campaign_text}
@@ -6,14 +6,12 @@ use Rattle.mc_flash.specs.{Flash.{grain_text}, Geometry.{Geometry, refusal_of}}
 use Rattle.mc_flash.specs.{declared.flash.Grain.{Grain}, declared.layout.LayoutError.{LayoutError}}
 use Rattle.mc_image.specs.VersionText.{Names}
 use Rattle.mc_image.specs.{declared.error.VersionError.{VersionError}, declared.version.Version.{Version}}
-use Rattle.mc_imgtool.specs.declared.error.ToolError.TheVariants as tool_errors
 use Rattle.mc_options.specs.Arguments.{GivesLayout, IsFlag, RefusesSource, gives_two, words_text}
 use Rattle.mc_options.specs.Numbers.{GivesNoNumber, GivesNumber, IsUnit, option_name}
 use Rattle.mc_options.specs.{declared.numbers.NumberOption.{NumberOption}, declared.refusal.Refusal.{Refusal}}
 use Rattle.mc_options.specs.declared.numbers.NumberOption.TheVariants as numbers
 use Rattle.mc_options.specs.declared.refusal.Refusal.TheVariants as refusals
 use Rattle.mc_start.specs.{Start.{IsSchedule, schedule_text}, declared.schedule.ScheduleError.{ScheduleError}}
-use Rattle.mc_start.specs.declared.start.StartError.{StartError}
 use Rattle.mc_campaign.specs.declared.campaign.CampaignError.{CampaignError}
 use Rattle.mc_trace.specs.declared.cells.Words.{Words}
 use Rattle.mc_trailer.specs.{Tables.{profile_text}, declared.tables.Profile.{Profile}}
@@ -131,16 +129,3 @@ FailsCampaign text e = ((error : CampaignError) × (e ≡ refusals.Campaign erro
 -- A file that would be written is one that is read.
 abbrev pub IsLost : Found → Refusal → Type 0
 IsLost found e = (e ≡ refusals.SameFile) × ((is_some (first_value found (codes "out")) || is_some (first_value found (codes "at-cut"))) ≡ true)
-
--- A file cannot be opened or read, or is too long; or an allocation failed.
-abbrev pub IsOfFile : Refusal → Type 0
-IsOfFile e =
-    (e ≡ refusals.Open) ⊎ ((e ≡ refusals.Tool tool_errors.InputTooLong) ⊎ ((e ≡ refusals.Tool tool_errors.Read) ⊎ (e ≡ refusals.Tool tool_errors.Memory)))
-
--- Or its bytes make no start.
-abbrev pub IsOfStart : Refusal → Type 0
-IsOfStart e = IsOfFile e ⊎ ((error : StartError) × (e ≡ refusals.Start error))
-
--- A source gives no start.
-abbrev pub LacksStart : Found → Refusal → Type 0
-LacksStart found e = LacksFlash found e ⊎ IsOfStart e

@@ -3,12 +3,12 @@ use crate::options::{flash_options, has_two_rounds};
 use crate::source::read_start;
 use clap::ArgMatches;
 use mc_campaign::{Campaign, Round, start_of_second};
+use mc_cli::KnownFiles;
 use mc_explore::{Schedule, Start, replay};
 use mc_flash::JournalFlash;
 use std::alloc::Global;
 use std::io;
 use std::io::Write;
-use std::rt::Files;
 
 /// A cut, and how many operations its boot has.
 #[derive(Clone, Copy)]
@@ -48,7 +48,7 @@ fn in_campaign(
 }
 
 /// The cut of a number that the words give, with its boot, if all that is read to find it is as it was.
-fn boot_of<F: Files>(
+fn boot_of<F: KnownFiles>(
     files: &F,
     alloc: Global,
     arguments: &ArgMatches<'_>,
@@ -73,7 +73,7 @@ fn boot_of<F: Files>(
 /// # Errors
 ///
 /// Where the output fails.
-pub fn report_cut<F: Files, E: Write>(
+pub fn report_cut<F: KnownFiles, E: Write>(
     files: &F,
     alloc: Global,
     arguments: &ArgMatches<'_>,

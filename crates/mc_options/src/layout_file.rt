@@ -2,10 +2,10 @@
 use crate::numbers::NumberOption;
 use crate::refusal::Refusal;
 use crate::source::read_file;
+use mc_cli::KnownFiles;
 use std::alloc::Global;
 use std::io;
 use std::io::Write;
-use std::rt::Files;
 
 /// The most bytes of a file of a layout.
 const GREATEST_FILE: u32 = 65_536;
@@ -66,7 +66,7 @@ fn add_settings(alloc: Global, text: &str, words: &mut Vec<String>) -> Result<()
 /// # Errors
 ///
 /// What `read_file` refuses; `LayoutFile` where it is no text, or a line says anything else; `Memory`.
-fn add_file<F: Files>(
+fn add_file<F: KnownFiles>(
     files: &F,
     alloc: Global,
     path: &str,
@@ -84,7 +84,7 @@ fn add_file<F: Files>(
 /// # Errors
 ///
 /// Where the output fails.
-pub(crate) fn report_lines<F: Files, E: Write>(
+pub(crate) fn report_lines<F: KnownFiles, E: Write>(
     files: &F,
     alloc: Global,
     path: &str,
@@ -118,7 +118,7 @@ pub fn asks_file(words: &[String]) -> bool {
 /// # Errors
 ///
 /// Those of `add_file`.
-pub fn with_files<F: Files>(
+pub fn with_files<F: KnownFiles>(
     files: &F,
     alloc: Global,
     words: &[String],

@@ -1,4 +1,7 @@
 //! Files that are written: a plain one is whole, or as it was.
+ghost use Rattle.std.specs.Prelude.{◌≡◌, ◌⊎◌, Err, IfErr, Ok, OnOk};
+ghost use Rattle.mc_options.specs.Outfiles.{IsUnmade};
+
 use crate::refusal::Refusal;
 use mc_cli::{WatchedFiles, WatchedWriter};
 use std::alloc::Global;
@@ -34,7 +37,9 @@ impl<'f, 'p, F: Files> Outfile<'f, 'p, F> {
     pub fn in_place(
         files: &'f WatchedFiles<'f, F>,
         target: &'p str,
-    ) -> Result<Outfile<'f, 'p, F>, Refusal> {
+    ) -> Result<Outfile<'f, 'p, F>, Refusal>
+        ensures { IfErr result (λ e. e ≡ Refusal.Open) }
+    {
         match fs::create(files, target) {
             Ok(file) => Ok(Outfile {
                 files,
@@ -56,7 +61,9 @@ impl<'f, 'p, F: Files> Outfile<'f, 'p, F> {
         files: &'f WatchedFiles<'f, F>,
         alloc: Global,
         target: &'p str,
-    ) -> Result<Outfile<'f, 'p, F>, Refusal> {
+    ) -> Result<Outfile<'f, 'p, F>, Refusal>
+        ensures { IfErr result IsUnmade }
+    {
         if own_number(files).is_some() {
             // What stays takes no one's place.
             let _ = remove_left(files, alloc, target);
@@ -73,7 +80,9 @@ impl<'f, 'p, F: Files> Outfile<'f, 'p, F> {
         files: &'f WatchedFiles<'f, F>,
         alloc: Global,
         target: &'p str,
-    ) -> Result<Outfile<'f, 'p, F>, Refusal> {
+    ) -> Result<Outfile<'f, 'p, F>, Refusal>
+        ensures { IfErr result IsUnmade }
+    {
         let old = match fs::symlink_metadata(files, target) {
             Ok(old) if old.is_file() => Some(old),
             Err(error) if error.kind() == ErrorKind::NotFound => None,
@@ -97,7 +106,10 @@ impl<'f, 'p, F: Files> Outfile<'f, 'p, F> {
     /// # Errors
     ///
     /// What writing it was refused for; `Write` where it cannot take that place.
-    pub fn end(&self, written: Result<(), Refusal>) -> Result<(), Refusal> {
+    pub fn end(&self, written: Result<(), Refusal>) -> Result<(), Refusal>
+        ensures done { OnOk result (written ≡ Ok tt) }
+        ensures refused { IfErr result (λ e. (written ≡ Err e) ⊎ (e ≡ Refusal.Write)) }
+    {
         if let Some(error) = self.file.failure() {
             self.files.keep_failed(self.target, error);
         }
@@ -173,7 +185,9 @@ fn create_beside<F: Files>(
     files: &WatchedFiles<'_, F>,
     alloc: Global,
     target: &str,
-) -> Result<(String, F::File), Refusal> {
+) -> Result<(String, F::File), Refusal>
+    ensures { IfErr result IsUnmade }
+{
     let own = own_number(files).unwrap_or(0);
     let first = format!(in alloc; "{target}{MARK}{own}").map_err(|_| Refusal::Memory)?;
     if let Some(file) = create_new(files, first.as_str(), target)? {
@@ -197,7 +211,9 @@ fn create_new<F: Files>(
     files: &WatchedFiles<'_, F>,
     path: &str,
     target: &str,
-) -> Result<Option<F::File>, Refusal> {
+) -> Result<Option<F::File>, Refusal>
+    ensures { IfErr result (λ e. e ≡ Refusal.Open) }
+{
     let mut options = OpenOptions::new();
     let _ = options.write(true).create_new(true);
     match options.open(files, path) {

@@ -9,7 +9,7 @@ use crate::options::{create_options, layout_options};
 use crate::refusal::Refusal;
 use crate::source::{GREATEST_FLASH, GREATEST_IMAGE, read_file};
 use clap::ArgMatches;
-use mc_cli::WatchedFiles;
+use mc_cli::{KnownFiles, WatchedFiles};
 use mc_explore::{ReplayError, StartError};
 use mc_flash::{LayoutError, Slot};
 use mc_image::{ImageError, ImageView};
@@ -18,7 +18,6 @@ use mc_life::{EventError, LifeError};
 use mc_trace::TraceError;
 use std::alloc::Global;
 use std::io::{Read, Write};
-use std::rt::Files;
 use std::{fs, io};
 
 /// Prints the reason of a refusal, if it is known: the file and what the system says of it, how much of it is read, what it begins with, or the
@@ -28,7 +27,7 @@ use std::{fs, io};
 /// # Errors
 ///
 /// Where the output fails.
-pub fn report_reason<F: Files, E: Write>(
+pub fn report_reason<F: KnownFiles, E: Write>(
     files: WatchedFiles<'_, F>,
     alloc: Global,
     arguments: &ArgMatches<'_>,
@@ -60,7 +59,7 @@ pub fn report_reason<F: Files, E: Write>(
 /// # Errors
 ///
 /// Where the output fails.
-fn report_tool<F: Files, E: Write>(
+fn report_tool<F: KnownFiles, E: Write>(
     files: WatchedFiles<'_, F>,
     alloc: Global,
     arguments: &ArgMatches<'_>,
@@ -77,7 +76,7 @@ fn report_tool<F: Files, E: Write>(
 }
 
 /// How many bytes the image of a payload has, if that can be read and made.
-fn image_size<F: Files>(
+fn image_size<F: KnownFiles>(
     files: &F,
     alloc: Global,
     options: &CreateOptions,
@@ -102,7 +101,7 @@ fn image_size<F: Files>(
 /// # Errors
 ///
 /// Where the output fails.
-fn report_slot<F: Files, E: Write>(
+fn report_slot<F: KnownFiles, E: Write>(
     files: &F,
     alloc: Global,
     arguments: &ArgMatches<'_>,
@@ -151,7 +150,7 @@ fn first_missing<'n>(arguments: &ArgMatches<'_>, names: &[&'n str]) -> Option<&'
 /// # Errors
 ///
 /// Where the output fails.
-pub fn report_file<F: Files, E: Write>(
+pub fn report_file<F: KnownFiles, E: Write>(
     files: WatchedFiles<'_, F>,
     alloc: Global,
     refusal: &Refusal,
@@ -209,7 +208,7 @@ fn report_source<E: Write>(arguments: &ArgMatches<'_>, err: &mut E) -> io::Resul
 /// # Errors
 ///
 /// Where the output fails.
-fn report_long<F: Files, E: Write>(
+fn report_long<F: KnownFiles, E: Write>(
     files: WatchedFiles<'_, F>,
     arguments: &ArgMatches<'_>,
     err: &mut E,
@@ -230,7 +229,10 @@ fn report_long<F: Files, E: Write>(
 /// # Errors
 ///
 /// Where the output fails.
-fn report_failed<F: Files, E: Write>(files: WatchedFiles<'_, F>, err: &mut E) -> io::Result<()> {
+fn report_failed<F: KnownFiles, E: Write>(
+    files: WatchedFiles<'_, F>,
+    err: &mut E,
+) -> io::Result<()> {
     match files.failed() {
         Some(failed) => writeln!(err, "mcsim: {}: {}", failed.path, failed.error),
         None => Ok(()),
@@ -242,7 +244,7 @@ fn report_failed<F: Files, E: Write>(files: WatchedFiles<'_, F>, err: &mut E) ->
 /// # Errors
 ///
 /// Where the output fails.
-fn report_unread<F: Files, E: Write>(files: &F, path: &str, err: &mut E) -> io::Result<()> {
+fn report_unread<F: KnownFiles, E: Write>(files: &F, path: &str, err: &mut E) -> io::Result<()> {
     let mut byte = [0; 1];
     if let Ok(mut file) = fs::open(files, path)
         && let Err(error) = file.read(&mut byte)
@@ -351,7 +353,7 @@ fn number(arguments: &ArgMatches<'_>, option: NumberOption) -> u32 {
 /// # Errors
 ///
 /// Where the output fails.
-fn report_start<F: Files, E: Write>(
+fn report_start<F: KnownFiles, E: Write>(
     files: &F,
     alloc: Global,
     arguments: &ArgMatches<'_>,
@@ -384,7 +386,7 @@ fn report_start<F: Files, E: Write>(
 /// # Errors
 ///
 /// Where the output fails.
-fn report_image<F: Files, E: Write>(
+fn report_image<F: KnownFiles, E: Write>(
     files: &F,
     image: (&str, &str),
     error: ImageError,
@@ -400,7 +402,7 @@ fn report_image<F: Files, E: Write>(
 /// # Errors
 ///
 /// Where the output fails.
-fn report_size<F: Files, E: Write>(
+fn report_size<F: KnownFiles, E: Write>(
     files: &F,
     alloc: Global,
     arguments: &ArgMatches<'_>,
@@ -425,7 +427,7 @@ fn report_size<F: Files, E: Write>(
 /// # Errors
 ///
 /// Where the output fails.
-fn report_flash<F: Files, E: Write>(
+fn report_flash<F: KnownFiles, E: Write>(
     files: &F,
     arguments: &ArgMatches<'_>,
     err: &mut E,

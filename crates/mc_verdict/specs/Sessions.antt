@@ -3,6 +3,7 @@ use Rattle.std.specs.Prelude.{◌≡◌, ◌⊎◌, ℕ, Bool, List, Option, Som
 use Rattle.clap.specs.declared.parser.matches.Found.{Found}
 use Rattle.mc_boot.specs.{Plan.{PowerOn}, declared.kind.Kind.{Kind}}
 use Rattle.mc_boot.specs.declared.kind.Kind.TheVariants as starts
+use Rattle.mc_cli.specs.Files.{Holds}
 use Rattle.mc_explore.specs.{Census.{IsCensus}, Pages.{ShownIsOut}, Right.{AreRights, SurveysRows}}
 use Rattle.mc_explore.specs.{Subject.{Explored, GoesOnBeyond, Resumes, StandsBefore, State, Subject, at_start, rows_of}, declared.error.ExploreError.{ExploreError}}
 use Rattle.mc_explore.specs.declared.error.ExploreError.TheVariants as errors
@@ -13,7 +14,7 @@ use Rattle.mc_image.specs.Valid.{Identity}
 use Rattle.mc_start.specs.{Cursor.{IsCursor, cursor_text}, Start.{begun}, declared.cursor.Cursor.{Cursor}}
 use Rattle.mc_campaign.specs.declared.cursor.CampaignCursor.{CampaignCursor}
 use Rattle.mc_campaign.specs.Texts as campaigns
-use Rattle.mc_options.specs.{Arguments.{GivesExtent, GivesFlash, GivesRange}, Numbers.{GivesNumber}, Refusals.{IsOfStart, LacksExtent, LacksFlash, LacksRange, LacksRequired}, Sources.{IsStartOf}}
+use Rattle.mc_options.specs.{Arguments.{GivesExtent, GivesFlash, GivesRange}, Numbers.{GivesNumber}, Refusals.{LacksExtent, LacksFlash, LacksRange, LacksRequired}, Sources.{FailsStart, IsStartOf}}
 use Rattle.mc_verdict.specs.{Verdicts.{IsExpectation, GivesAsked, IsJudged, LacksEnds, NeverJudged}, declared.verdict.Asked.{Asked}, declared.census.Counts.{Counts}, declared.census.Wanted.{Wanted}}
 use Rattle.mc_verdict.specs.declared.explore.Exploration.{Exploration}
 use Rattle.mc_options.specs.declared.numbers.NumberOption.TheVariants as numbers
@@ -46,10 +47,11 @@ or_any e = unwrap_or e (record { primary = wanted.Anything; secondary = wanted.A
 
 -- The arguments give an exploration: its start, what is chosen, how far it goes, which rows it gives, and what is asked of them, of a layout
 -- that swaps.
-pub record GivesExploration {C K R U : Type 0} (x : Subject C K R U) (IsChoice : Found → C → Type 0) (returns : Kind → C → Bool) (found : Found) (a : Asked) (e : Exploration C U K) : Type 0 where
+pub record GivesExploration {C K R U : Type 0} (x : Subject C K R U) (IsChoice : Found → C → Type 0) (returns : Kind → C → Bool)
+    (holds : Holds) (found : Found) (a : Asked) (e : Exploration C U K) : Type 0 where
   pub options : FlashOptions
   pub options_given : GivesFlash found options
-  pub start : IsStartOf options e.start
+  pub start : IsStartOf holds options e.start
   pub choice : IsChoice found e.choice
   pub images_return : e.images_return ≡ images_return returns options.source e.choice
   pub extent : GivesExtent found e.extent
@@ -65,14 +67,15 @@ abbrev pub IsNoCampaignCursor : List ℕ → Type 0
 IsNoCampaignCursor text = (c : CampaignCursor) → campaigns.IsCursor c → text ≡ campaigns.cursor_text c → ⊥
 
 -- They give no exploration, whose cursors and keys have such texts.
-abbrev pub LacksExploration : (List ℕ → Type 0) → (List ℕ → Type 0) → Found → Refusal → Type 0
-LacksExploration IsNoCursor IsNoKey found e =
-    ((LacksEnds found e ⊎ LacksFlash found e) ⊎ (LacksExtent found e ⊎ LacksRange IsNoCursor IsNoKey found e)) ⊎ (NeverJudged found e ⊎ IsOfStart e)
+abbrev pub LacksExploration : (List ℕ → Type 0) → (List ℕ → Type 0) → Holds → Found → Refusal → Type 0
+LacksExploration IsNoCursor IsNoKey holds found e =
+    ((LacksEnds found e ⊎ LacksFlash found e) ⊎ (LacksExtent found e ⊎ LacksRange IsNoCursor IsNoKey found e))
+    ⊎ (NeverJudged found e ⊎ FailsStart holds found e)
 
 -- They give no census.
-abbrev pub LacksCensus : Found → Refusal → Type 0
-LacksCensus found e =
-    ((LacksEnds found e ⊎ LacksFlash found e) ⊎ LacksRequired found numbers.Cuts e) ⊎ (NeverJudged found e ⊎ IsOfStart e)
+abbrev pub LacksCensus : Holds → Found → Refusal → Type 0
+LacksCensus holds found e =
+    ((LacksEnds found e ⊎ LacksFlash found e) ⊎ LacksRequired found numbers.Cuts e) ⊎ (NeverJudged found e ⊎ FailsStart holds found e)
 
 module _ {C K R U : Type 0} (x : Subject C K R U) (fields : U → Fields C K) where
   -- An explorer after a key, with a key next, after that of the cursor, or at the start; or why there is none.
@@ -114,10 +117,10 @@ module _ {C K R U : Type 0} (x : Subject C K R U) (fields : U → Fields C K) wh
     pub out : ShownIsOut (rows_of x) e.range.until explorer.state new e.extent.limit before after
 
 -- The arguments give a census: its start, what is chosen, the most cuts, and what is asked of the rows, of a layout that swaps.
-pub record GivesWanted {C : Type 0} (IsChoice : Found → C → Type 0) (returns : Kind → C → Bool) (found : Found) (w : Wanted C) : Type 0 where
+pub record GivesWanted {C : Type 0} (IsChoice : Found → C → Type 0) (returns : Kind → C → Bool) (holds : Holds) (found : Found) (w : Wanted C) : Type 0 where
   pub options : FlashOptions
   pub options_given : GivesFlash found options
-  pub start : IsStartOf options w.start
+  pub start : IsStartOf holds options w.start
   pub choice : IsChoice found w.choice
   pub images_return : w.images_return ≡ images_return returns options.source w.choice
   pub cuts : GivesNumber found numbers.Cuts w.cuts

@@ -14,6 +14,7 @@ use crate::explorable::Explorable;
 use crate::explore::{ends, images_return};
 use crate::verdict::{Asked, right_if_asked, write_lines};
 use clap::ArgMatches;
+use mc_cli::KnownFiles;
 use mc_explore::{
     CensusOf, Expectation, ExploreError, RightsOf, Start, Subject, each_boots, take_census,
     take_rights, write_census,
@@ -23,7 +24,6 @@ use mc_options::{Refusal, census_options, flash_options, read_start};
 use mc_output::WriteFailed;
 use std::alloc::Global;
 use std::io::Write;
-use std::rt::Files;
 
 /// A census that the words ask for.
 #[derive(Drop)]
@@ -73,14 +73,15 @@ fn rights_if<X: Subject>(
 /// # Errors
 ///
 /// `Source`, `Layout`, the numbers and `Version` of the words; `NeverSwaps`; what `read_start` refuses.
-pub fn read<X: Explorable, F: Files>(
+pub fn read<X: Explorable, F: KnownFiles>(
     files: &F,
     alloc: Global,
     arguments: &ArgMatches<'_>,
 ) -> Result<Wanted<X::Choice>, Refusal>
-    ensures given { IfOk result (GivesWanted X.IsChoice X.images_return (found_of arguments.now)) }
+    ensures given { IfOk result (GivesWanted X.IsChoice X.images_return (F.holds files.now)
+        (found_of arguments.now)) }
     ensures range { IfOk result (λ wanted. wanted.cuts ≤ 16) }
-    ensures refused { IfErr result (LacksCensus (found_of arguments.now)) }
+    ensures refused { IfErr result (LacksCensus (F.holds files.now) (found_of arguments.now)) }
 {
     let options = match flash_options(arguments) {
         Ok(options) => options,

@@ -15,6 +15,7 @@ use crate::explorable::Explorable;
 use crate::verdict::{Asked, right_if_asked, write_lines};
 use clap::ArgMatches;
 use mc_boot::ImageId;
+use mc_cli::KnownFiles;
 use mc_explore::{
     Expectation, ExploreError, RightsOf, Start, Subject, TallyOf, TreeExplorer, all_boot,
     survey_rows, write_rows, write_tally,
@@ -26,7 +27,6 @@ use mc_options::{
 };
 use std::alloc::Global;
 use std::io::Write;
-use std::rt::Files;
 
 /// An exploration that the options ask for: where it starts, and the rows that are wanted of it.
 #[derive(Drop)]
@@ -187,17 +187,17 @@ fn counts<'a, X: Explorable>(
 ///
 /// `Version`, `Source`, `Layout`, the numbers, `CursorOptions`, `Cursor`, `Schedule` and `Campaign` of the words; `NeverSwaps`; what
 /// `read_start` refuses.
-pub fn ask<X: Explorable, F: Files>(
+pub fn ask<X: Explorable, F: KnownFiles>(
     files: &F,
     alloc: Global,
     arguments: &ArgMatches<'_>,
 ) -> Result<(Asked, Exploration<X::Choice, X::Cursor, X::Key>), Refusal>
     ensures given { IfOk result (λ given. GivesExploration X.subject X.IsChoice X.images_return
-        (found_of arguments.now) given.0 given.1) }
+        (F.holds files.now) (found_of arguments.now) given.0 given.1) }
     ensures range { IfOk result (λ given. (given.1.extent.cuts ≤ 16)
         × (1 ≤ given.1.extent.limit)) }
-    ensures refused { IfErr result (LacksExploration X.IsNoCursor X.IsNoKey (found_of
-        arguments.now)) }
+    ensures refused { IfErr result (LacksExploration X.IsNoCursor X.IsNoKey (F.holds files.now)
+        (found_of arguments.now)) }
 {
     let asked = Asked::read(arguments)?;
     let options = match flash_options(arguments) {

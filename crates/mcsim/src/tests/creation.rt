@@ -1,31 +1,31 @@
 //! `create`: the images that it makes, and what it refuses; and command lines over real files.
 use super::support::{Table, all_play, same_at, shown_of};
+use mc_command::KnownFiles;
 use mc_fixtures::{GOOD_LINE, PAYLOAD, PLAIN_IMAGE};
 use std::alloc::Global;
 use std::os::unix::fs::symlink;
 use std::process::Abort;
-use std::rt::Files;
 use std::{env, fs, process};
 
 /// Looks what a command line prints over the real files, with an image as standard input.
-fn shows<H: Abort + Files>(rt: &H, alloc: Global, line: &str, want: &str) {
+fn shows<H: Abort + KnownFiles>(rt: &H, alloc: Global, line: &str, want: &str) {
     let text = shown_of(rt, alloc, line, &PLAIN_IMAGE);
     same_at(rt, &line, &text.as_str(), &want)
 }
 
 /// Looks what a file holds.
-fn holds<H: Abort + Files + Alloc>(rt: &H, path: &str, want: &[u8]) {
+fn holds<H: Abort + KnownFiles + Alloc>(rt: &H, path: &str, want: &[u8]) {
     let bytes = fs::read(rt, path).expect(rt, "a file");
     same_at(rt, &path, &bytes.as_slice(), &want)
 }
 
 /// Removes a file.
-fn remove<H: Abort + Files>(rt: &H, path: &str) {
+fn remove<H: Abort + KnownFiles>(rt: &H, path: &str) {
     fs::remove_file(rt, path).expect(rt, "a file")
 }
 
 /// Looks what `create` prints of these files.
-fn creates<H: Abort + Files>(rt: &H, alloc: Global, infile: &str, outfile: &str, want: &str) {
+fn creates<H: Abort + KnownFiles>(rt: &H, alloc: Global, infile: &str, outfile: &str, want: &str) {
     let line = format!(in alloc;
         "create --version 1.2.3+4 --header-size 32 --pad-header {infile} {outfile}"
     ).expect(rt, "memory");
@@ -33,13 +33,13 @@ fn creates<H: Abort + Files>(rt: &H, alloc: Global, infile: &str, outfile: &str,
 }
 
 /// Looks what `verify` tells of a path.
-fn verifies<H: Abort + Files>(rt: &H, alloc: Global, path: &str, want: &str) {
+fn verifies<H: Abort + KnownFiles>(rt: &H, alloc: Global, path: &str, want: &str) {
     let line = format!(in alloc; "verify {path}").expect(rt, "memory");
     shows(rt, alloc, line.as_str(), want)
 }
 
 /// Makes an image of the payload, verifies and removes it.
-fn makes<H: Abort + Files + Alloc>(rt: &H, alloc: Global, payload: &str, image: &str) {
+fn makes<H: Abort + KnownFiles + Alloc>(rt: &H, alloc: Global, payload: &str, image: &str) {
     creates(rt, alloc, payload, image, "");
     verifies(rt, alloc, image, GOOD_LINE);
     holds(rt, image, &PLAIN_IMAGE);
@@ -47,7 +47,7 @@ fn makes<H: Abort + Files + Alloc>(rt: &H, alloc: Global, payload: &str, image: 
 }
 
 /// Refuses a payload that is to be its own image by this path, and leaves it as it is.
-fn keeps<H: Abort + Files + Alloc>(
+fn keeps<H: Abort + KnownFiles + Alloc>(
     rt: &H,
     alloc: Global,
     payload: &str,
@@ -65,7 +65,7 @@ fn keeps<H: Abort + Files + Alloc>(
 }
 
 /// Makes an image of a payload, and refuses the payload that is to be its own image, by the path of a link, and by a detour.
-fn makes_and_keeps<H: Abort + Files + Alloc>(
+fn makes_and_keeps<H: Abort + KnownFiles + Alloc>(
     rt: &H,
     alloc: Global,
     payload: &str,

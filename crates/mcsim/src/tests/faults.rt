@@ -1,11 +1,10 @@
 //! Command lines whose reads and writes fail, each at each call.
 use super::support::{broken_over, contents, in_full, ran_over, same_at, words_of};
-use mc_command::run;
+use mc_command::{KnownFiles, run};
 use mc_fixtures::{Failure, Fault, FaultyFile, FaultyFiles, PAYLOAD, PLAIN_IMAGE};
 use std::alloc::Global;
 use std::cell::RefCell;
 use std::process::Abort;
-use std::rt::Files;
 
 static FAULTS: [Fault; 3] = [Fault::Error, Fault::Interruption, Fault::NoBytes];
 
@@ -63,7 +62,7 @@ fn failing(unused: &RefCell<Vec<u8>>) -> FaultyFile<'_> {
 }
 
 /// The status of a command line with such streams.
-fn status_of<H: Abort + Files>(rt: &H, alloc: Global, line: &str) -> u8 {
+fn status_of<H: Abort + KnownFiles>(rt: &H, alloc: Global, line: &str) -> u8 {
     let words = words_of(rt, alloc, line);
     let unused = RefCell::new(Vec::new(alloc));
     let (mut out, mut err) = (failing(&unused), failing(&unused));

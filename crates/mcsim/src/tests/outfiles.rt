@@ -1,5 +1,6 @@
 //! Layouts from files, reasons of refusals, and what becomes of a file that is written.
 use super::support::{Table, all_play, in_full, same_at, shown_of, shows};
+use mc_command::KnownFiles;
 use mc_fixtures::{PAYLOAD, PLAIN_IMAGE, named};
 use std::alloc::Global;
 use std::fs::{OpenFile, Permissions};
@@ -121,19 +122,19 @@ fn gives_reasons_and_notes(rt: HostRuntime) {
 }
 
 /// Looks what a command line prints over the real files.
-fn prints<H: Abort + Files>(rt: &H, alloc: Global, line: &str, want: &str) {
+fn prints<H: Abort + KnownFiles>(rt: &H, alloc: Global, line: &str, want: &str) {
     let text = shown_of(rt, alloc, line, &PAYLOAD);
     same_at(rt, &line, &text.as_str(), &want)
 }
 
 /// Looks what a file holds.
-fn holds<H: Abort + Files + Alloc>(rt: &H, path: &str, want: &[u8]) {
+fn holds<H: Abort + KnownFiles + Alloc>(rt: &H, path: &str, want: &[u8]) {
     let bytes = fs::read(rt, path).expect(rt, "a file");
     same_at(rt, &path, &bytes.as_slice(), &want)
 }
 
 /// Makes an image in a file that is there: it keeps what it had where that is refused, and is the image where it is not.
-fn keeps_until_whole<H: Abort + Files + Alloc>(rt: &H, alloc: Global, path: &str) {
+fn keeps_until_whole<H: Abort + KnownFiles + Alloc>(rt: &H, alloc: Global, path: &str) {
     fs::write(rt, path, PLAIN_IMAGE.as_slice()).expect(rt, "a file");
     let line = format!(in alloc; "create --keep --version 2 --header-size 32 - {path}");
     let line = line.expect(rt, "memory");
@@ -148,14 +149,14 @@ fn keeps_until_whole<H: Abort + Files + Alloc>(rt: &H, alloc: Global, path: &str
 }
 
 /// Looks whether a file whose name ends so is in the folder of this one, whose name it begins with.
-fn stands<H: Abort + Files>(rt: &H, alloc: Global, path: &str, end: &str, wanted: bool) {
+fn stands<H: Abort + KnownFiles>(rt: &H, alloc: Global, path: &str, end: &str, wanted: bool) {
     let beside = format!(in alloc; "{path}{end}").expect(rt, "memory");
     let found = fs::exists(rt, beside.as_str()).unwrap_or(!wanted);
     same_at(rt, &(path, end), &found, &wanted)
 }
 
 /// The next run takes away what one has left that is over, and nothing else: no process has a number above 4194304, and 1 is never over.
-fn takes_away_what_is_left<H: Abort + Files + Alloc>(rt: &H, alloc: Global, path: &str) {
+fn takes_away_what_is_left<H: Abort + KnownFiles + Alloc>(rt: &H, alloc: Global, path: &str) {
     let ends = [
         ".mcsim-new4194305",
         ".mcsim-new1",
@@ -176,7 +177,7 @@ fn takes_away_what_is_left<H: Abort + Files + Alloc>(rt: &H, alloc: Global, path
 }
 
 /// Boots a flash in place, by its path or a link.
-fn boots_in_place<H: Abort + Files + Alloc>(rt: &H, alloc: Global, path: &str, out: &str) {
+fn boots_in_place<H: Abort + KnownFiles + Alloc>(rt: &H, alloc: Global, path: &str, out: &str) {
     let image = named("first").unwrap_or_default();
     let mut bytes = Vec::new(alloc);
     bytes.extend_from_slice(image).expect(rt, "memory");
@@ -194,13 +195,13 @@ fn boots_in_place<H: Abort + Files + Alloc>(rt: &H, alloc: Global, path: &str, o
 }
 
 /// Looks whether a file has the rights of its owner and group alone.
-fn has_rights<H: Abort + Files>(rt: &H, path: &str) {
+fn has_rights<H: Abort + KnownFiles>(rt: &H, path: &str) {
     let file = fs::metadata(rt, path).expect(rt, "a file");
     same_at(rt, &path, &(file.permissions().mode() & 0o777), &0o640)
 }
 
 /// Boots a flash in place through a link, which stays one.
-fn boots_through_a_link<H: Abort + Files + Alloc>(rt: &H, alloc: Global, path: &str) {
+fn boots_through_a_link<H: Abort + KnownFiles + Alloc>(rt: &H, alloc: Global, path: &str) {
     let link = format!(in alloc; "{path}-link").expect(rt, "memory");
     rt.symlink(path, link.as_str()).expect(rt, "a link");
     boots_in_place(rt, alloc, path, link.as_str());
@@ -210,7 +211,7 @@ fn boots_through_a_link<H: Abort + Files + Alloc>(rt: &H, alloc: Global, path: &
 }
 
 /// A file of one byte more than is read of an image.
-fn is_too_long<H: Abort + Files + Alloc>(rt: &H, alloc: Global, path: &str) {
+fn is_too_long<H: Abort + KnownFiles + Alloc>(rt: &H, alloc: Global, path: &str) {
     let file = fs::create(rt, path).expect(rt, "a file");
     file.set_len(16_777_217).expect(rt, "a file");
     let line = format!(in alloc;

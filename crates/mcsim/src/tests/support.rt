@@ -1,5 +1,5 @@
 //! What the tests of command lines share: files in memory, and sessions over them.
-use mc_command::run;
+use mc_command::{KnownFiles, run};
 use mc_fixtures::{
     FIRST_TOLD, FailingWriter, Failure, Fault, FaultyFiles, GOOD_LINE, SECOND_TOLD, change_at,
     named,
@@ -10,7 +10,6 @@ use std::cell::RefCell;
 use std::fmt::Debug;
 use std::io::Read;
 use std::process::Abort;
-use std::rt::Files;
 
 /// What was found is what is wanted. Where it is not so, this is told.
 pub fn same_at<T: PartialEq + Debug, A: Debug>(rt: &impl Abort, at: &A, found: &T, wanted: &T) {
@@ -67,7 +66,7 @@ pub fn text_of(rt: &impl Abort, bytes: Vec<u8>) -> String {
 }
 
 /// Runs a command line.
-pub fn outcome_over<F: Files, R: Read>(
+pub fn outcome_over<F: KnownFiles, R: Read>(
     rt: &impl Abort,
     alloc: Global,
     files: &F,
@@ -86,7 +85,7 @@ pub fn outcome_over<F: Files, R: Read>(
 }
 
 /// How a command line ends whose standard output fails after so many bytes: its status, what it says of it, and what is out.
-pub fn broken_over<F: Files>(
+pub fn broken_over<F: KnownFiles>(
     rt: &impl Abort,
     alloc: Global,
     files: &F,
@@ -115,7 +114,12 @@ pub fn broken_over<F: Files>(
 }
 
 /// What a command line prints over the real files, with these bytes as standard input.
-pub fn shown_of<H: Abort + Files>(rt: &H, alloc: Global, line: &str, mut input: &[u8]) -> String {
+pub fn shown_of<H: Abort + KnownFiles>(
+    rt: &H,
+    alloc: Global,
+    line: &str,
+    mut input: &[u8],
+) -> String {
     let words = words_of(rt, alloc, line);
     let ended = outcome_over(rt, alloc, rt, words.as_slice(), &mut input);
     ended.text(rt, alloc)

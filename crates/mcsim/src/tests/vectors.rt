@@ -1,11 +1,11 @@
 //! `vectors`: the distinct flashes that cuts leave. Tables and patch are those of a boot loader that shares no code with this repository,
 //! stopped after each operation.
 use super::support::{Table, all_play, broken_over, contents, same_at, shown_of, sum_of, text_of};
+use mc_command::KnownFiles;
 use mc_fixtures::named;
 use sha2::{Digest, Sha256};
 use std::alloc::Global;
 use std::process::Abort;
-use std::rt::Files;
 use std::{env, fs, process};
 
 /// The lines of a table, and its digest: of whole calls and of units, of a flash that a swap has left, of no cut; and what is refused.
@@ -61,18 +61,18 @@ fn path_in(rt: &impl Abort, alloc: Global, folder: &str, id: u32, name: &str) ->
 }
 
 /// Writes an image that has a name.
-fn write_named<H: Abort + Files>(rt: &H, path: &str, name: &str) {
+fn write_named<H: Abort + KnownFiles>(rt: &H, path: &str, name: &str) {
     fs::write(rt, path, named(name).unwrap_or_default()).expect(rt, "a file")
 }
 
 /// Looks what a command line prints over the real files.
-fn prints<H: Abort + Files>(rt: &H, alloc: Global, line: &str, want: &str) {
+fn prints<H: Abort + KnownFiles>(rt: &H, alloc: Global, line: &str, want: &str) {
     let text = shown_of(rt, alloc, line, &[]);
     same_at(rt, &line, &text.as_str(), &want)
 }
 
 /// What a file of a folder holds.
-fn held<H: Abort + Files + AllocGlobal>(
+fn held<H: Abort + KnownFiles + AllocGlobal>(
     rt: &H,
     alloc: Global,
     folder: &str,
@@ -83,7 +83,7 @@ fn held<H: Abort + Files + AllocGlobal>(
 }
 
 /// Looks what the start's flash is, and the patch after nine operations.
-fn holds_patch<H: Abort + Files + AllocGlobal>(rt: &H, alloc: Global, folder: &str) {
+fn holds_patch<H: Abort + KnownFiles + AllocGlobal>(rt: &H, alloc: Global, folder: &str) {
     let start = contents(
         rt,
         alloc,
@@ -97,7 +97,12 @@ fn holds_patch<H: Abort + Files + AllocGlobal>(rt: &H, alloc: Global, folder: &s
 }
 
 /// Looks whether the flash of that digest is there.
-fn holds_flash<H: Abort + Files + AllocGlobal>(rt: &H, alloc: Global, folder: &str, digest: &str) {
+fn holds_flash<H: Abort + KnownFiles + AllocGlobal>(
+    rt: &H,
+    alloc: Global,
+    folder: &str,
+    digest: &str,
+) {
     let name = format!(in alloc; "flash/{digest}.bin").expect(rt, "memory");
     let flash = held(rt, alloc, folder, name.as_str());
     let mut sectors = Sha256::new();
@@ -109,7 +114,7 @@ fn holds_flash<H: Abort + Files + AllocGlobal>(rt: &H, alloc: Global, folder: &s
 }
 
 /// Looks whether the table is that of all cuts, and each flash that it names is there.
-fn holds_flashes<H: Abort + Files + AllocGlobal>(rt: &H, alloc: Global, folder: &str) {
+fn holds_flashes<H: Abort + KnownFiles + AllocGlobal>(rt: &H, alloc: Global, folder: &str) {
     let table = text_of(rt, held(rt, alloc, folder, "cases.tsv"));
     let sum = sum_of(rt, alloc, table.as_str());
     let want = "lines 14 8c3f8c82f5adfa3179202ff06db9a1ae0d07de8c637c4b407da10829bd85119f\n";
@@ -122,7 +127,7 @@ fn holds_flashes<H: Abort + Files + AllocGlobal>(rt: &H, alloc: Global, folder: 
 }
 
 /// Looks how it ends where not all of how many flashes there are can be written.
-fn breaks_off<H: Abort + Files>(rt: &H, alloc: Global, line: &str) {
+fn breaks_off<H: Abort + KnownFiles>(rt: &H, alloc: Global, line: &str) {
     let (status, err, out) = broken_over(rt, alloc, rt, line, 8);
     let found = (status, err.as_str(), out.as_slice());
     let wanted = (3, "mcsim: E25 Write\n", b"flashes ".as_slice());
@@ -137,7 +142,7 @@ static ASKED: [(&str, &str); 3] = [
 ];
 
 /// Writes a folder that is empty, and refuses to write it again.
-fn writes_once<H: Abort + Files + AllocGlobal>(
+fn writes_once<H: Abort + KnownFiles + AllocGlobal>(
     rt: &H,
     alloc: Global,
     images: &str,

@@ -10,12 +10,12 @@ named None given other is some = absurd (cc)
 pub returns-in_err-script-clause-refused : goal.returns-in_err-script-clause-refused
 returns-in_err-script-clause-refused g c =
     let p = err_from_is_err_and c.from_residual-in_err-script.result c.from_residual-in_err-script.ensures.1 in
-    rw (p.1, p.2) (inr (inr c.in_err-script.ensures))
+    rw (p.1, p.2) (inr (inr (inl c.in_err-script.ensures.refused)))
 
 pub returns-in_err-shelf-clause-refused : goal.returns-in_err-shelf-clause-refused
 returns-in_err-shelf-clause-refused g c =
     let p = err_from_is_err_and c.from_residual-in_err-shelf.result c.from_residual-in_err-shelf.ensures.1 in
-    rw (p.1, p.2) (elim c.in_err-shelf.ensures [
-      | inl of_file ↦ inr (inr (inl of_file))
+    rw (p.1, p.2) (elim c.in_err-shelf.ensures.refused [
+      | inl of_file ↦ inr (inr (inr of_file))
       | inr lost ↦ inr (inl (inl (lost.0, named _ _ _ c.get_str-out.ensures lost.1)))
     ])

@@ -1,7 +1,23 @@
-use Rattle.std.proofs.{Common.{inl}, lemmas.Result.{err_from_is_err_and}}
+use Rattle.std.proofs.{Common.{arith, inl}, lemmas.Result.{err_from_is_err_and}}
+use Rattle.mc_actions.proofs.Shelving.{all_shelved, shelved_more}
 use Rattle.mc_actions.proofs.life.read_shelf.Goals as goal
 
-pub returns-in_err-add_file : goal.returns-in_err-add_file
-returns-in_err-add_file g c =
+pub returns-in_err-add_file-clause-refused : goal.returns-in_err-add_file-clause-refused
+returns-in_err-add_file-clause-refused g c =
     let p = err_from_is_err_and c.from_residual-in_err-add_file.result c.from_residual-in_err-add_file.ensures.1 in
-    rw (p.1, p.2) (inl c.in_err-add_file.ensures)
+    rw (p.1, p.2) (inl c.in_err-add_file.ensures.refused)
+
+pub names-preserved : goal.names-preserved
+names-preserved g c = record {
+  read = c.in_ok-add_file.ensures.added.read c.names.invariant.read;
+  shelved = shelved_more _ _ _ c.deref-name-items.result.now c.names.name-index _ c.names-test.true c.names.invariant.shelved c.in_ok-add_file.ensures.added;
+}
+
+pub returns-clause-shelf : goal.returns-clause-shelf
+returns-clause-shelf g c = (
+  c.names.invariant.read,
+  _,
+  c.in_ok-names.ensures,
+  all_shelved (g.F.KnownFiles.holds c.args.files.now) c.names.shelf.items c.in_ok-names.names.items c.deref-name-items.result.now c.names.name-index
+      c.deref-name-items.ensures.value (omega (arith, c.names-test.false)) c.names.invariant.shelved,
+)

@@ -19,3 +19,8 @@ returns g c =
       refl,
       rw (c.as_bytes.ensures.value, c.in-Ok-format.ensures.ok) at c.in_ok-write_text.ensures.whole,
     )
+
+pub returns-in_err-write_left : goal.returns-in_err-write_left
+returns-in_err-write_left g c =
+    let p = err_from_is_err_and c.from_residual-in_err-write_left.result c.from_residual-in_err-write_left.ensures.1 in
+    rw (p.1, p.2) (inr (inl (_, refl, inr (inr c.in_err-write_left.ensures), refl)))

@@ -19,3 +19,14 @@ returns g c =
       refl,
       rw (c.as_bytes.ensures.value, c.in-Ok-format.ensures.ok) at c.in_ok-write_text.ensures.whole,
     )
+
+pub returns-in_err-write_cut : goal.returns-in_err-write_cut
+returns-in_err-write_cut g c =
+    let p = err_from_is_err_and c.from_residual.result c.from_residual.ensures.1 in
+    rw (p.1, p.2) (inr (inl (_, refl, inr (inr c.in_err-write_cut.ensures), refl)))
+
+pub returns-in_err-write_left : goal.returns-in_err-write_left
+returns-in_err-write_left g c =
+    let p = err_from_is_err_and c.from_residual-in_err-write_left.result c.from_residual-in_err-write_left.ensures.1 in
+    let unwritten = c.in_err-write_left.ensures in
+    rw (p.1, p.2) (inr (inl (_, refl, inr (inr (unwritten.0, inr unwritten.1)), refl)))

@@ -7,4 +7,4 @@ returns-in-Err-clause-refused g c = inl c.in-Err.ensures.refused
 pub returns-in_err-start-clause-refused : goal.returns-in_err-start-clause-refused
 returns-in_err-start-clause-refused g c =
     let p = err_from_is_err_and c.from_residual-in_err-start.result c.from_residual-in_err-start.ensures.1 in
-    rw (p.1, p.2) (inr (inr (inr c.in_err-start.ensures.refused)))
+    rw (p.1, p.2) (inr (inr (inr (record { options = c.in-Ok.options; given = c.in-Ok.ensures.given; fails = c.in_err-start.ensures.refused }))))

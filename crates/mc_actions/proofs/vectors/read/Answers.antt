@@ -13,3 +13,8 @@ pub returns-in_err-folder-clause-refused : goal.returns-in_err-folder-clause-ref
 returns-in_err-folder-clause-refused g c =
     let p = err_from_is_err_and c.from_residual-in_err-folder.result c.from_residual-in_err-folder.ensures.1 in
     rw (p.1, p.2) (inr (inl (inr c.in_err-folder.ensures.refused)))
+
+pub returns-in_err-start-clause-refused : goal.returns-in_err-start-clause-refused
+returns-in_err-start-clause-refused g c =
+    let p = err_from_is_err_and c.from_residual-in_err-start.result c.from_residual-in_err-start.ensures.1 in
+    rw (p.1, p.2) (inr (inr (record { options = c.in-Ok.options; given = c.in-Ok.ensures.given; fails = c.in_err-start.ensures.refused })))

@@ -4,7 +4,12 @@ use Rattle.mc_command.proofs.inspect.read.Goals as goal
 
 pub returns-clause-given : goal.returns-clause-given
 returns-clause-given g c = rw c.of_dump.ensures (record {
-  dump = record { layout = rw c.in_ok-start.ensures.layout c.in-Ok.ensures.layout; rules = rw c.in_ok-start.ensures.rules c.in-Ok.ensures.rules };
+  dump = record {
+    layout = rw c.in_ok-start.ensures.layout c.in-Ok.ensures.layout;
+    rules = rw c.in_ok-start.ensures.rules c.in-Ok.ensures.rules;
+    bytes = (c.in-Ok.dump.path.now, c.in-Ok.ensures.path, c.in_ok-start.ensures.bytes);
+  };
+  images = c.in_ok-images.ensures.given;
   asked = c.in_ok-asked.ensures.given;
   judged = rw c.in_ok-start.ensures.layout (λ any never. not_refused _ _ (c.in_ok-check.ensures.refused.1 (any, never)));
   cuts = refl;
@@ -17,4 +22,9 @@ returns-in-Err-clause-refused g c = inl (inl c.in-Err.ensures.refused)
 pub returns-in_err-start-clause-refused : goal.returns-in_err-start-clause-refused
 returns-in_err-start-clause-refused g c =
     let p = err_from_is_err_and c.from_residual-in_err-start.result c.from_residual-in_err-start.ensures.1 in
-    rw (p.1, p.2) (inr (inr c.in_err-start.ensures.refused))
+    rw (p.1, p.2) (inr (inr (c.in-Ok.dump.layout, c.in-Ok.ensures.layout, (c.in-Ok.dump.path.now, c.in-Ok.ensures.path, c.in_err-start.ensures.refused))))
+
+pub returns-in_err-images-clause-refused : goal.returns-in_err-images-clause-refused
+returns-in_err-images-clause-refused g c =
+    let p = err_from_is_err_and c.from_residual-in_err-images.result c.from_residual-in_err-images.ensures.1 in
+    rw (p.1, p.2) (inr (inl (inr c.in_err-images.ensures.refused)))

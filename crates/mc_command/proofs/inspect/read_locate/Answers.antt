@@ -7,4 +7,4 @@ returns-in-Err-clause-refused g c = inl (inl c.in-Err.ensures.refused)
 pub returns-in_err-flash-clause-refused : goal.returns-in_err-flash-clause-refused
 returns-in_err-flash-clause-refused g c =
     let p = err_from_is_err_and c.from_residual-in_err-flash.result c.from_residual-in_err-flash.ensures.1 in
-    rw (p.1, p.2) (inr (inr c.in_err-flash.ensures.refused))
+    rw (p.1, p.2) (inr (inr (c.in-Ok.dump.layout, c.in-Ok.ensures.layout, (c.in-Ok.dump.path.now, c.in-Ok.ensures.path, c.in_err-flash.ensures.refused))))

@@ -18,7 +18,7 @@ returns-in_err-range-clause-refused g c =
 pub returns-in_err-read_start-clause-refused : goal.returns-in_err-read_start-clause-refused
 returns-in_err-read_start-clause-refused g c =
     let p = err_from_is_err_and c.from_residual-in_err-read_start.result c.from_residual-in_err-read_start.ensures.1 in
-    rw (p.1, p.2) (inr (inr c.in_err-read_start.ensures.refused))
+    rw (p.1, p.2) (inr (inr (record { options = c.in-Ok.options; given = c.in-Ok.ensures.given; fails = c.in_err-read_start.ensures.refused })))
 
 pub returns-clause-given : goal.returns-clause-given
 returns-clause-given g c = record {

@@ -23,3 +23,9 @@ returns-in-Survey g c = rw c.in-Survey.is c.survey.ensures
 
 pub returns-in-CampaignSurvey : goal.returns-in-CampaignSurvey
 returns-in-CampaignSurvey g c = rw c.in-CampaignSurvey.is c.survey-in-CampaignSurvey.ensures
+
+pub returns-in-Replay : goal.returns-in-Replay
+returns-in-Replay g c = rw c.in-Replay.is c.answer-in-Replay.ensures
+
+pub returns-in-CampaignReplay : goal.returns-in-CampaignReplay
+returns-in-CampaignReplay g c = rw c.in-CampaignReplay.is c.answer-in-CampaignReplay.ensures
