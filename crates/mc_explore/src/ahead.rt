@@ -1,6 +1,5 @@
 //! Rows that are found without the flash.
-ghost use Rattle.std.specs.Prelude.{◌≡◌, ◌<◌, ◌≤◌, length, Some, IfSome, MatchOption};
-ghost use Rattle.mc_explore.specs.inner.Exploring.{IsSpent};
+ghost use Rattle.std.specs.Prelude.{◌≡◌, ◌<◌, ◌≤◌, length};
 ghost use Rattle.mc_explore.specs.inner.BootRows.{cut_at, first_there, left_in_round, one_cut_more};
 
 use crate::boot_row::{Cuts, Ends};
@@ -77,17 +76,5 @@ impl Ahead {
             first,
             last: told.last,
         }
-    }
-}
-
-/// Those where one is still to come.
-#[inline]
-pub(crate) fn still_to_come(rows: Option<RowsAhead>) -> Option<RowsAhead>
-    ensures { MatchOption result (IfSome rows IsSpent) (λ left. (rows ≡ Some left) × (left.next
-        < left.count)) }
-{
-    match rows {
-        Some(left) if left.next < left.count => Some(left),
-        _ => None,
     }
 }

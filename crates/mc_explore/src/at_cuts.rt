@@ -76,21 +76,21 @@ impl<O: Copy> AtCuts<O> {
     /// after it the same was told, as far as it is known. It is looked for first in the run `near`, which is then the one to look in
     /// for the cut after these.
     #[inline]
-    pub fn find(&self, shared_tail: &SharedTail, number: u32, near: &mut usize) -> Option<(O, u32)>
+    pub fn find(&self, shared_tail: &SharedTail, number: u32, near: &mut usize) -> Option<(&O, u32)>
         requires { number < 2 ^ 31 }
         ensures { (i : ℕ) → index_in_parent shared_tail.now number ≡ self.now.first + i
             → IsSplit self.now.told.items self.now.count → i < self.now.count → IsSomeAnd result
-            (λ found. AreToldAlike shared_tail.now self.now number i found.1 found.0) }
+            (λ found. AreToldAlike shared_tail.now self.now number i found.1 found.0.now) }
     {
         let index = shared_tail.index_in_parent(number).checked_sub(self.first)?;
         *near = run_near(&self.told, self.count, index, *near);
         let run = self.told.get(*near)?;
         if number < shared_tail.erases() {
-            return Some((run.of, 0));
+            return Some((&run.of, 0));
         }
         *near += 1;
         let end = begin_at(&self.told, self.count, *near);
-        Some((run.of, end.saturating_sub(index).saturating_sub(1)))
+        Some((&run.of, end.saturating_sub(index).saturating_sub(1)))
     }
 
     /// Whether all is kept that was told at those cuts of its boot, with so many operations, to which another boot leads.

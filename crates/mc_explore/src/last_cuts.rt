@@ -207,7 +207,7 @@ pub(crate) fn row_ahead(
     rows.counted_up = 0;
     let (told, alike) = kept.find(&rows.ahead.shared_tail, number, &mut rows.near)?;
     let cuts = rows.ahead.cuts_of(number);
-    let ends = rows.ahead.ends_of(number, &told);
+    let ends = rows.ahead.ends_of(number, told);
     let left = rows.ahead.left_in_round(number, rows.count);
     rows.counted_up = alike.min(left.saturating_sub(1));
     Some(BootRow { cuts, ends })

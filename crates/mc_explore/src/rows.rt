@@ -6,7 +6,7 @@ ghost use Rattle.mc_explore.specs.inner.BootRows.{AreKeptOf, IsRowIn};
 ghost use Rattle.mc_explore.specs.inner.BootTree.{model_of};
 ghost use Rattle.mc_explore.specs.inner.Exploring.{CostsRow, FindsRow, IsCountedUp, IsWithin, StandsFor, TakesCountedUp};
 
-use crate::ahead::{RowsAhead, still_to_come};
+use crate::ahead::RowsAhead;
 use crate::at_cuts::AtCuts;
 use crate::boot_row::{BootRow, Ends};
 use crate::last_cuts::{row_ahead, tell};
@@ -153,11 +153,11 @@ impl<'a, F: Flash + Drop> Rows<'a, F> {
             self.new) }
         ensures costs { CostsRow model_of self.old result self.new }
     {
-        if let Some(mut rows) = still_to_come(self.ahead) {
+        if let Some(rows) = &mut self.ahead
+            && rows.next < rows.count
+        {
             let flash_tree = self.tour.walk().flash_tree();
-            let row = row_ahead(&flash_tree, &self.kept, &self.path, &mut rows);
-            self.ahead = Some(rows);
-            self.row = row;
+            self.row = row_ahead(&flash_tree, &self.kept, &self.path, rows);
             return Ok(());
         }
         if !next_node(&mut self.tour, self.ahead.is_some())? {

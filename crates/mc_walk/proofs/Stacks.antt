@@ -208,23 +208,6 @@ module _ {N A T : Type 0} (k : TreeModel N A T) where
       → k.IsSummary n parent → IfOk r (k.IsSummary (k.tree.child n i))
   given_there mid at parent it n i gives here some is = grind arith
 
-  -- Twins.
-
-  spent_last : (f : Frame A T) (fs : List (Frame A T)) → AreSpent k (f ∷ fs) → (before : List (Frame A T)) × (last : Frame A T) × (f ∷ fs ≡ before ++ last ∷ []) × IsSpent k last
-  spent_last f [] spent = ([], f, refl, spent.0)
-  spent_last f (g ∷ fs) spent = let r = spent_last g fs spent.1 in (f ∷ r.0, r.1, ap (λ z. f ∷ z) r.2, r.3)
-
-  -- Where the last frame is open none is taken off.
-  pub none_spent : (checkpoints : List Checkpoint) (all before more : List (Frame A T)) → Stacked k checkpoints all → ((xs : List (Frame A T)) (f : Frame A T) → all ≡ xs ++ f ∷ [] → IsOpen k f)
-      → all ≡ before ++ more → AreSpent k more → more ≡ []
-  none_spent checkpoints all before [] st open_is split spent = refl
-  none_spent checkpoints all before (f ∷ fs) st open_is split spent =
-      let last = spent_last f fs spent in
-      let parts : all ≡ (before ++ last.0) ++ last.1 ∷ [] = split ∙ ap (λ z. before ++ z) last.2 ∙ sym (append_assoc before last.0 (last.1 ∷ [])) in
-      let here = (among k.root 0 st.above (before ++ last.0) last.1 [] (subst (AreFrames k k.root 0 st.above) parts st.frames)).frame.summary_is in
-      let n : N = landed k.tree k.root (path_of (before ++ last.0)) in
-      absurd (omega (arith, last.3 n here, open_is (before ++ last.0) last.1 parts n here))
-
   -- Frames are taken off, and the flash is back at the checkpoint of the last of them.
   pub popped : (seen : Seen) (all fs : List (Frame A T)) (f : Frame A T) (more : List (Frame A T)) → Stacked k seen.checkpoints all
       → seen.geometry ≡ k.geometry → all ≡ fs ++ f ∷ more → Comes k (went_back (length fs + 1) seen) fs f × (length fs + 1 < length seen.checkpoints)

@@ -1,13 +1,13 @@
 -- A walk on its way to a further node.
-use Rattle.std.proofs.Common.{◌≡◌, ℕ, ◌+◌, ◌*◌, ◌<◌, ◌≤◌, true, false, List, [], ◌∷◌, ◌++◌, length, Option, Some, None, Result, Ok, OnOk, IfSome, is_some, slice_index_or, slice_set, ◌-◌, length-append, append-nil, append_assoc, refl, sym, ap, subst, ◌∙◌, arith}
+use Rattle.std.proofs.Common.{◌≡◌, ℕ, ◌+◌, ◌*◌, ◌<◌, ◌≤◌, true, false, List, [], ◌∷◌, ◌++◌, length, Option, Some, None, Result, Ok, OnOk, IfSome, IsSomeAnd, is_some, slice_index_or, slice_set, ◌-◌, length-append, refl, sym, ap, subst, ◌∙◌, arith}
 use Rattle.std.proofs.lemmas.List.{map-append, length-map, get_or_at, same_from_push, set_at}
 use Rattle.mc_tree.specs.{Tree.{Allowed, landed}, facts.Order.{IsNextBeyond, allowed-last, none_beyond, next_beyond}, inner.Weights.{AreTwins}}
 use Rattle.mc_flash.specs.Usage.{Counts, Checkpoint, Seen, Keeps, checkpoint_of, went_back, marked, Spent, Spends, Stays, HasRoom, LeaveRoom, plus, room_of}
 use Rattle.mc_flash.specs.{facts.Spends.{spent_back, spent_both, spent_more}, declared.flash.FlashError.{FlashError}}
 use Rattle.mc_walk.specs.TreeModel.{AreTwinsOn, CanPassTwins, HasWidth, IsTwin, PassesTwins, TreeModel, owed_there, summary_cost, IsAt, IsParent, HasNext, ReachesNext, CanReach}
-use Rattle.mc_walk.specs.inner.Stack.{path_of, most_at, AreSpent, IsLastOpen, AreFrames, Stacked, node_of, Stands, Comes, CanGoOn, CanPass, HasPassed, IsKnown, IsLeft, IsOneOn, IsOpen, IsRoomy, IsTwinOn}
+use Rattle.mc_walk.specs.inner.Stack.{path_of, most_at, AreSpent, IsLastOpen, AreFrames, Stacked, node_of, Stands, Comes, CanGoOn, CanPass, HasGoneOn, HasPassed, IsLeft, IsOneOn, IsOpen, IsRoomy, IsTwinOn}
 use Rattle.mc_walk.specs.{Walks.{walked, HasPassedTwins, IsBeforeTwin, IsFresh, Begins, IsThere, IsGoing, IsLastStep, IsPath, GoesDown, Climbs}, declared.frame.Frame.{Frame}}
-use Rattle.mc_walk.proofs.Stacks.{entered, last_one, path-push, no_path, frames_allowed, frames_last, among, node-push, none_spent, one_last, length-stack, popped}
+use Rattle.mc_walk.proofs.Stacks.{entered, last_one, path-push, no_path, frames_allowed, frames_last, among, node-push, one_last, length-stack, popped}
 
 pub ok_any : {X E P : Type 0} (r : Result X E) → P → OnOk r P
 ok_any it p = grind arith
@@ -116,8 +116,27 @@ module _ {N A T : Type 0} (k : TreeModel N A T) where
     pub mark_on : length mid.checkpoints < mid.usage.limits.checkpoints
     mark_on = mark_room c.bound mid c.before next_on comes_on (roomy_stays c.bound seen mid spent.limits c.roomy) c.at_most
 
-    pub room_on : HasRoom (owed_there k at) (marked mid)
+    room_on : HasRoom (owed_there k at) (marked mid)
     room_on = enter_room c.bound mid c.before next_on comes_on (roomy_stays c.bound seen mid spent.limits c.roomy) c.at_most
+
+    pub gone_on : (new : Seen) (fs : List (Frame A T)) → new ≡ marked mid → fs ≡ c.before ++ next_on ∷ [] → HasGoneOn k all new fs
+    gone_on new fs m e = record {
+      before = c.before;
+      frame = f;
+      next = next_on;
+      frames_are = c.frames_are ∙ ap (λ z. c.before ++ z ∷ []) (sym f_is);
+      next_are = e;
+      number_is = refl;
+      seen = mid;
+      comes = comes_on;
+      marked_is = m;
+      room = subst (HasRoom (owed_there k at)) (sym m) room_on;
+    }
+
+  pub one_on : (all new : List (Frame A T)) (seen : Seen) → HasGoneOn k all seen new → IsOneOn all new
+  one_on all new seen h before f split =
+      let same = same_from_push before h.before f h.frame (sym split ∙ h.frames_are) in
+      (h.next, h.next_are ∙ ap (λ z. z ++ h.next ∷ []) (sym same.0), h.number_is ∙ ap (λ (z : Frame A T). z.number + 1) (sym same.1))
 
   -- The last frame, and what is put in its place.
   pub last_now : (all before : List (Frame A T)) (f now : Frame A T) (n : ℕ) → n ≡ length all - 1 → now ≡ slice_index_or all n now → all ≡ before ++ f ∷ [] → now ≡ f
@@ -125,11 +144,6 @@ module _ {N A T : Type 0} (k : TreeModel N A T) where
 
   pub last_set : (all before : List (Frame A T)) (f next : Frame A T) (n : ℕ) → n ≡ length all - 1 → all ≡ before ++ f ∷ [] → slice_set all n next ≡ before ++ next ∷ []
   last_set all before f next n is split = grind (arith, length-append, set_at)
-
-  pub one_on : (all : List (Frame A T)) (now next : Frame A T) (n : ℕ) → n ≡ length all - 1 → now ≡ slice_index_or all n now → next.number ≡ now.number + 1
-      → IsOneOn all (slice_set all n next)
-  one_on all now next n is value number before f split =
-      (next, last_set all before f next n is split, number ∙ ap (λ (z : Frame A T). z.number + 1) (last_now all before f now n is value split))
 
   -- From the child of the last frame it can go on, and went on, over so many twins.
   module _ (seen : Seen) (all : List (Frame A T)) (summary : T) (c : CanPass k seen all summary) (f : Frame A T) (f_is : f ≡ c.frame) (width most : ℕ) (has : HasWidth k f.parent width)
@@ -429,22 +443,55 @@ module _ {N A T : Type 0} (k : TreeModel N A T) where
           twin = t.2;
         }
 
-    -- No frame is taken off.
-    pub none_left : (left : List (Frame A T)) → IsLeft k all left → left ≡ all
-    none_left left l =
-        let parts : all ≡ left ++ l.last.more = l.last.split ∙ sym (append_assoc l.before (l.frame ∷ []) l.last.more) ∙ ap (λ z. z ++ l.last.more) (sym l.frames_are) in
-        let none = none_spent k seen.checkpoints all left l.last.more going.stands.stacked (λ fs f split. subst (IsOpen k) (sym (last_same fs f split)) on.open_is) parts l.last.spent in
-        sym (parts ∙ ap (λ z. left ++ z) none ∙ append-nil left)
+    -- Its last frame is the last that is open.
+    last_on : IsLastOpen k on.frame all on.before
+    last_on = record { open_is = on.open_is; more = []; spent = tt; split = on.frames_are }
 
-  pub known_next : (bound : ℕ) (seen : Seen) (all left : List (Frame A T)) (stood twin : Option T) → IfSome stood (IsGoing k bound seen all) → IsLeft k all left
-      → IfSome twin (IsTwinOn k seen all stood) → IsKnown k left twin
-  known_next bound seen all left stood None going l on = λ fs f split. tt
-  known_next bound seen all left stood (Some summary) going l on = λ fs f split.
-      let here : IsGoing k bound seen all summary = subst (λ o. IfSome o (IsGoing k bound seen all)) on.stood_is going in
-      (twin_at bound seen all stood summary here on fs f (sym (none_left bound seen all stood summary here on left l) ∙ split)).2.summary_is
+    pub twin_leaves : Leaves bound seen all all
+    twin_leaves = record {
+      summary = summary;
+      going = going;
+      is = record {
+        before = on.before;
+        frame = on.frame;
+        frames_are = on.frames_are;
+        last = last_on;
+        small = on.small;
+      };
+    }
 
-  pub before_next : {B : Type 0} (b : B) (bound : ℕ) (seen : Seen) (all : List (Frame A T)) (stood twin : Option T) → IfSome stood (IsGoing k bound seen all)
-      → IfSome twin (IsTwinOn k seen all stood) → IfSome twin (IsBeforeTwin k (walked b bound seen all stood))
-  before_next b bound seen all stood None going on = tt
-  before_next b bound seen all stood (Some summary) going on =
-      before_twin bound seen all stood summary (subst (λ o. IfSome o (IsGoing k bound seen all)) on.stood_is going) on b
+    -- It went on to the twin.
+    pub twin_stands : (new : Seen) (fs : List (Frame A T)) → HasGoneOn k all new fs → Stands k new fs summary
+    twin_stands new fs h =
+        let is : k.IsSummary (k.tree.child (node_of k h.before) h.next.number) summary = rw h.number_is (twin_at h.before h.frame h.frames_are).2.summary_is in
+        subst (λ z. Stands k z fs summary) (sym h.marked_is) (subst (λ z. Stands k (marked h.seen) z summary) (sym h.next_are)
+        (entered k h.seen (marked h.seen) h.before h.next summary h.comes (record { geometry = refl; content = refl; checkpoints = refl; counts = refl }) is))
+
+    -- From there the path is the next beyond.
+    pub twin_climbed : {B : Type 0} (b : B) (new : Seen) (fs : List (Frame A T)) → HasGoneOn k all new fs → Climbs k (walked b bound seen all stood) true (walked b bound new fs stood)
+    twin_climbed b new fs h =
+        let next = one_on all fs new h on.before on.frame on.frames_are in
+        subst (λ o. Climbs k (walked b bound seen all stood) true (walked b bound new fs o)) (sym on.stood_is)
+        (climbed b bound seen new all on.before fs on.frame next.0 stood summary going.stands.stacked last_on next.2 next.1)
+
+    pub twin_arrives : (back new : Seen) (fs : List (Frame A T)) → back ≡ went_back (length all) seen → HasGoneOn k all new fs → Spent k.step back new
+        → Arrives bound ((0 + 1) * k.step) seen new fs summary
+    twin_arrives back new fs e h spent =
+        let most : k.step ≤ k.step + summary_cost k = omega arith in
+        arrives_on bound seen back all all twin_leaves e new fs summary (twin_stands new fs h) (one_on all fs new h) (spent_more k.step _ back new most spent)
+
+  -- It stands before a twin.
+  pub record StandsBefore (bound : ℕ) (seen : Seen) (all : List (Frame A T)) (stood : Option T) : Type 0 where
+    pub summary : T
+    pub going : IsGoing k bound seen all summary
+    pub on : IsTwinOn k seen all stood summary
+
+  pub stands_before : (bound : ℕ) (seen : Seen) (all : List (Frame A T)) (stood : Option T) → IfSome stood (IsGoing k bound seen all)
+      → IsSomeAnd stood (IsTwinOn k seen all stood) → StandsBefore bound seen all stood
+  stands_before bound seen all None going on = absurd on
+  stands_before bound seen all (Some summary) going on = record { summary = summary; going = going; on = on }
+
+  pub before_next : {B : Type 0} (b : B) (bound : ℕ) (seen : Seen) (all : List (Frame A T)) (stood : Option T) → IfSome stood (IsGoing k bound seen all)
+      → IsSomeAnd stood (IsTwinOn k seen all stood) → IfSome stood (IsBeforeTwin k (walked b bound seen all stood))
+  before_next b bound seen all None going on = tt
+  before_next b bound seen all (Some summary) going on = before_twin bound seen all (Some summary) summary going on b

@@ -8,7 +8,7 @@ ghost use Rattle.mc_walk.specs.Walks.{IsClear, IsFresh, IsOf, Begins, GoesDown, 
 
 use crate::FlashTree;
 use crate::child_steps::{go_to_child, parent};
-use crate::enter::{enter, next_sibling, pass_siblings, twin_of};
+use crate::enter::{enter, next_child, next_sibling, pass_siblings, twin_of};
 use crate::frame::{Frame, leave_spent};
 use arrayvec::ArrayVec;
 use mc_flash::Flash;
@@ -199,7 +199,10 @@ impl<F: Flash, B: FlashTree> Walk<F, B> {
         requires { self.now.stands ≡ true }
         ensures { IfSome result (IsBeforeTwin (B.model self.now.flash_tree) self.now) }
     {
-        twin_of(self.flash_tree, &self.flash, &self.frames, self.summary)
+        if twin_of(self.flash_tree, &self.flash, &self.frames, &self.summary) {
+            return self.summary;
+        }
+        None
     }
 
     /// Goes on among the children of the last node before it, over next ones that surely are twins of the one where it stands, and
@@ -244,14 +247,23 @@ impl<F: Flash, B: FlashTree> Walk<F, B> {
         ensures spends { Spends (child_cost (B.model self.old.flash_tree) 0) self.old.seen result
             self.new.seen }
     {
-        let twin = twin_of(self.flash_tree, &self.flash, &self.frames, self.summary);
+        if twin_of(self.flash_tree, &self.flash, &self.frames, &self.summary) {
+            // The twin has the summary of the node where it stands, and its frame is the last.
+            let steps = self.frames.len();
+            self.flash.back_to(steps);
+            if let Err(error) = next_child(self.flash_tree, &mut self.flash, &mut self.frames) {
+                self.summary = None;
+                return Err(error);
+            }
+            return Ok(true);
+        }
         self.summary = None;
         if !leave_spent(self.flash_tree, &mut self.frames) {
             return Ok(false);
         }
         // The checkpoint of the last frame stands after that of the root and those of the frames below it.
         self.flash.back_to(self.frames.len());
-        let summary = next_sibling(self.flash_tree, &mut self.flash, &mut self.frames, twin)?;
+        let summary = next_sibling(self.flash_tree, &mut self.flash, &mut self.frames)?;
         self.summary = Some(summary);
         Ok(true)
     }

@@ -1,5 +1,5 @@
 -- The frames of a walk.
-use Rattle.std.specs.Prelude.{Bool, IfSome, List, Option, Some, [], false, length, map, true, ℕ, ◌++◌, ◌+◌, ◌<◌, ◌^◌, ◌∷◌, ◌≡◌, ◌≤◌}
+use Rattle.std.specs.Prelude.{Bool, List, Option, Some, [], false, length, map, true, ℕ, ◌++◌, ◌+◌, ◌<◌, ◌^◌, ◌∷◌, ◌≡◌, ◌≤◌}
 use Rattle.mc_flash.specs.{Usage.{Checkpoint, Counts, HasRoom, LeaveRoom, Seen, checkpoint_of, marked, plus, times}}
 use Rattle.mc_tree.specs.Tree.{landed}
 use Rattle.mc_walk.specs.{TreeModel.{AreTwinsOn, HasNext, IsAt, IsTwin, TreeModel, owed_there}, declared.frame.Frame.{Frame}}
@@ -126,6 +126,19 @@ module _ {N A T : Type 0} (k : TreeModel N A T) where
     pub at_most : length before < bound
     pub roomy : IsRoomy bound seen
 
+  -- From the child of the last frame it went on to the next one, and the flash was marked there. There is room to find its summary.
+  pub record HasGoneOn (all : List (Frame A T)) (new : Seen) (fs : List (Frame A T)) : Type 0 where
+    pub before : List (Frame A T)
+    pub frame : Frame A T
+    pub next : Frame A T
+    pub frames_are : all ≡ before ++ frame ∷ []
+    pub next_are : fs ≡ before ++ next ∷ []
+    pub number_is : next.number ≡ frame.number + 1
+    pub seen : Seen
+    pub comes : Comes seen before next
+    pub marked_is : new ≡ marked seen
+    pub room : HasRoom (owed_there k next.at) new
+
   -- The flash stands at the child of the last frame, which has that summary. There is room to go on from there, and to mark the flash.
   pub record CanPass (seen : Seen) (fs : List (Frame A T)) (summary : T) : Type 0 where
     pub before : List (Frame A T)
@@ -156,9 +169,5 @@ module _ {N A T : Type 0} (k : TreeModel N A T) where
     pub frame : Frame A T
     pub frames_are : fs ≡ before ++ frame ∷ []
     pub open_is : IsOpen frame
+    pub small : frame.number + 1 < 2 ^ 32
     pub twin : (n : N) (i : ℕ) → IsAt k n i frame.at seen → i + 1 < k.tree.width n → k.IsSummary (k.tree.child n i) summary → IsTwin k n i summary
-
-  -- That is the summary of the next child of the node before the last frame, if it is known.
-  abbrev pub IsKnown : List (Frame A T) → Option T → Type 0
-  IsKnown fs known =
-      (before : List (Frame A T)) (f : Frame A T) → fs ≡ before ++ f ∷ [] → IfSome known (k.IsSummary (k.tree.child (node_of before) (f.number + 1)))
