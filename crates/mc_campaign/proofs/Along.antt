@@ -158,13 +158,10 @@ module _ (start : PowerOn) (confirms : Bool) (valid : IsLayout start.geometry) (
   few_at : (s : PowerOn) → IsOf start s → length (ops_of s) ≤ most_operations start.rules.grain start.geometry
   few_at s of = omega (arith, few_ops (again start s.content) valid, ap (λ (y : PowerOn). length (ops_of y)) of)
 
-  pair_is : (cut : ℕ × ℕ) (n i : ℕ) → cut.0 ≡ n → cut.1 ≡ i → (n, i) ≡ cut
-  pair_is (a, b) n i one two = cc
-
   same_some : (x y : ℕ) → Some x ≡ Some y → x ≡ y
   same_some x y e = cc
 
-  module _ (p : RoundNode PowerOn) (round : summary.round ≡ rounds_of.First) (t : AreSummaries start (kinds.Two confirms) p summary) (cut : ℕ × ℕ) where
+  module _ (p : RoundNode PowerOn) (round : summary.round ≡ rounds_of.First) (t : AreSummaries start (kinds.Two confirms) p summary) (number : ℕ) where
     -- It is a node of the first round, whose boot makes so many operations.
     abbrev IsFirst : Type 0
     IsFirst = (s : PowerOn) × (p ≡ round_one s) × (summary.first.outcome.ops ≡ length (ops_of s)) × IsOf start s
@@ -176,38 +173,38 @@ module _ (start : PowerOn) (confirms : Bool) (valid : IsLayout start.geometry) (
         by (round_one s) u = (s, refl, width_is s summary.first u.first_is.1, u.first_is.0)
         by (round_two began s) u = absurd (let no : rounds_of.First ≡ rounds_of.Second = sym round ∙ u.round_is in cc)
 
-    pub early : cut.0 ≡ 1 → cut.1 < summary.first.outcome.ops → HasChildOf confirms p cut (Some cut.1)
-    early one lt =
+    pub early : number < summary.first.outcome.ops → HasChildOf confirms p (1, number) (Some number)
+    early lt =
         let f = is_first in
-        subst (λ q. HasChildOf confirms q cut (Some cut.1)) (sym f.1) (λ i some. elim (cases_lt i (length (ops_of f.0))) [
-          | inl below ↦ (λ e. ap (λ (z : ℕ × ℕ). Some z.1) (sym e ∙ label_early f.0 i below), λ e. let same = same_some cut.1 i e in label_early f.0 i below ∙ pair_is cut 1 i one same)
+        subst (λ q. HasChildOf confirms q (1, number) (Some number)) (sym f.1) (λ i some. elim (cases_lt i (length (ops_of f.0))) [
+          | inl below ↦ (λ e. ap (λ (z : ℕ × ℕ). Some z.1) (sym e ∙ label_early f.0 i below), λ e. label_early f.0 i below ∙ ap (λ (n : ℕ). (1, n)) (sym (same_some number i e)))
           | inr above ↦ (
-            λ e. absurd (let no : 2 ≡ cut.0 = ap (λ (z : ℕ × ℕ). z.0) (sym (label_late f.0 i above) ∙ e) in omega (arith, no, one)),
-            λ e. absurd (omega (arith, same_some cut.1 i e, above, lt, f.2)),
+            λ e. absurd (let no : 2 ≡ 1 = ap (λ (z : ℕ × ℕ). z.0) (sym (label_late f.0 i above) ∙ e) in omega (arith, no)),
+            λ e. absurd (omega (arith, same_some number i e, above, lt, f.2)),
           )
         ])
 
-    pub too_late : cut.0 ≡ 1 → summary.first.outcome.ops ≤ cut.1 → HasChildOf confirms p cut None
-    too_late one le =
+    pub too_late : summary.first.outcome.ops ≤ number → HasChildOf confirms p (1, number) None
+    too_late le =
         let f = is_first in
-        subst (λ q. HasChildOf confirms q cut None) (sym f.1) (λ i some. elim (cases_lt i (length (ops_of f.0))) [
-          | inl below ↦ (λ e. absurd (let no : i ≡ cut.1 = ap (λ (z : ℕ × ℕ). z.1) (sym (label_early f.0 i below) ∙ e) in omega (arith, no, below, le, f.2)), λ e. absurd cc)
-          | inr above ↦ (λ e. absurd (let no : 2 ≡ cut.0 = ap (λ (z : ℕ × ℕ). z.0) (sym (label_late f.0 i above) ∙ e) in omega (arith, no, one)), λ e. absurd cc)
+        subst (λ q. HasChildOf confirms q (1, number) None) (sym f.1) (λ i some. elim (cases_lt i (length (ops_of f.0))) [
+          | inl below ↦ (λ e. absurd (let no : i ≡ number = ap (λ (z : ℕ × ℕ). z.1) (sym (label_early f.0 i below) ∙ e) in omega (arith, no, below, le, f.2)), λ e. absurd cc)
+          | inr above ↦ (λ e. absurd (let no : 2 ≡ 1 = ap (λ (z : ℕ × ℕ). z.0) (sym (label_late f.0 i above) ∙ e) in omega (arith, no)), λ e. absurd cc)
         ])
 
-    pub beyond_first : cut.0 ≡ 2 → (number : Option ℕ) → SomeIff number (summary.first.outcome.ops + cut.1 < 2 ^ 32) (summary.first.outcome.ops + cut.1) → HasChildOf confirms p cut number
-    beyond_first two number sum =
+    pub beyond_first : (child : Option ℕ) → SomeIff child (summary.first.outcome.ops + number < 2 ^ 32) (summary.first.outcome.ops + number) → HasChildOf confirms p (2, number) child
+    beyond_first child sum =
         let f = is_first in
-        subst (λ q. HasChildOf confirms q cut number) (sym f.1) (λ i some. elim (cases_lt i (length (ops_of f.0))) [
+        subst (λ q. HasChildOf confirms q (2, number) child) (sym f.1) (λ i some. elim (cases_lt i (length (ops_of f.0))) [
           | inl below ↦ (
-            λ e. absurd (let no : 1 ≡ cut.0 = ap (λ (z : ℕ × ℕ). z.0) (sym (label_early f.0 i below) ∙ e) in omega (arith, no, two)),
-            λ e. absurd (omega (arith, (there number sum i e).1, below, f.2)),
+            λ e. absurd (let no : 1 ≡ 2 = ap (λ (z : ℕ × ℕ). z.0) (sym (label_early f.0 i below) ∙ e) in omega (arith, no)),
+            λ e. absurd (omega (arith, (there child sum i e).1, below, f.2)),
           )
           | inr above ↦ (
             λ e.
-                let index : i - length (ops_of f.0) ≡ cut.1 = ap (λ (z : ℕ × ℕ). z.1) (sym (label_late f.0 i above) ∙ e) in
-                let sum_is : summary.first.outcome.ops + cut.1 ≡ i = omega (arith, index, above, f.2) in
-                some_there number sum i sum_is (omega (
+                let index : i - length (ops_of f.0) ≡ number = ap (λ (z : ℕ × ℕ). z.1) (sym (label_late f.0 i above) ∙ e) in
+                let sum_is : summary.first.outcome.ops + number ≡ i = omega (arith, index, above, f.2) in
+                some_there child sum i sum_is (omega (
                   arith,
                   some,
                   few_at f.0 f.3,
@@ -215,17 +212,17 @@ module _ (start : PowerOn) (confirms : Bool) (valid : IsLayout start.geometry) (
                   few_operations start.rules.grain start.geometry valid,
                 )),
             λ e.
-                let index : cut.1 ≡ i - length (ops_of f.0) = omega (arith, (there number sum i e).1, f.2) in
-                label_late f.0 i above ∙ pair_is cut 2 (i - length (ops_of f.0)) two index,
+                let index : i - length (ops_of f.0) ≡ number = omega (arith, (there child sum i e).1, f.2) in
+                label_late f.0 i above ∙ ap (λ (n : ℕ). (2, n)) index,
           )
         ])
       where
-        there : (n : Option ℕ) → SomeIff n (summary.first.outcome.ops + cut.1 < 2 ^ 32) (summary.first.outcome.ops + cut.1) → (i : ℕ) → n ≡ Some i
-            → (summary.first.outcome.ops + cut.1 < 2 ^ 32) × (summary.first.outcome.ops + cut.1 ≡ i)
+        there : (n : Option ℕ) → SomeIff n (summary.first.outcome.ops + number < 2 ^ 32) (summary.first.outcome.ops + number) → (i : ℕ) → n ≡ Some i
+            → (summary.first.outcome.ops + number < 2 ^ 32) × (summary.first.outcome.ops + number ≡ i)
         there None s i e = absurd cc
         there (Some x) s i e = (s.0, omega (arith, s.1, same_some x i e))
 
-        some_there : (n : Option ℕ) → SomeIff n (summary.first.outcome.ops + cut.1 < 2 ^ 32) (summary.first.outcome.ops + cut.1) → (i : ℕ) → summary.first.outcome.ops + cut.1 ≡ i
+        some_there : (n : Option ℕ) → SomeIff n (summary.first.outcome.ops + number < 2 ^ 32) (summary.first.outcome.ops + number) → (i : ℕ) → summary.first.outcome.ops + number ≡ i
             → i < 2 ^ 32 → n ≡ Some i
         some_there None s i e small = absurd (s (omega (arith, e, small)))
         some_there (Some x) s i e small = ap (λ (n : ℕ). Some n) (omega (arith, s.1, e))

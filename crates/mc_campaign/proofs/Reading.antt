@@ -1,24 +1,21 @@
 -- The texts of campaigns and of their cursors, read cut by cut, and the fixed room of their cuts.
-use Rattle.std.proofs.{Common.{ap, append-nil, append_assoc, arith, length-append, rules, subst, sym, ◌∙◌}, Math.Seq.{drop-append_seam}}
+use Rattle.std.proofs.{Common.{ap, append_assoc, arith, length-append, rules, subst, sym, ◌∙◌}, Math.Seq.{drop-append_seam}}
 use Rattle.std.proofs.{lemmas.Fmt.{decimal_injective}, lemmas.List.{drop-drop, drop-replicate, drop-set-lt}}
 use Rattle.std.proofs.lemmas.List.Elements.{All-drop, All-head, All-push}
-use Rattle.std.specs.Prelude.{All, Bool, List, Ok, Result, [], codes, decimal, drop, false, get_or, length, refl, replicate, slice_set, true, ℕ, ◌++◌, ◌+◌, ◌-◌, ◌<◌, ◌^◌, ◌∷◌, ◌≡◌, ◌≤◌}
+use Rattle.std.proofs.lemmas.Str.Pattern.{IsSplitOnceResult}
+use Rattle.std.specs.Borrow.{Bor}
+use Rattle.std.specs.Prelude.{All, Bool, List, None, Option, Some, [], codes, decimal, drop, false, get_or, length, refl, replicate, slice_set, true, ℕ, ◌++◌, ◌+◌, ◌-◌, ◌<◌, ◌^◌, ◌∷◌, ◌≡◌, ◌≤◌}
 use Rattle.mc_campaign.specs.{Campaigns.{AscendFrom}, Texts.{FitsCut, IsCampaign, IsCut, choice_text, cut_text}}
 use Rattle.mc_campaign.specs.{declared.cursor.CampaignCursor.{CampaignCursor}, facts.Cuts.{last_ordered, ordered_prefix}, facts.Room.{blanks_after}}
-use Rattle.mc_output.specs.{facts.Parting.{Lacks, lacks_both, lacks_decimal, no_dash, one_part}, facts.Reading.{IsSpelling}}
-use Rattle.mc_start.specs.{Start.{IsSchedule, schedule_text}, declared.cursor_fields.StartField.{StartField}}
+use Rattle.mc_explore.specs.{Rounds.{number_of}, declared.rounds.Round.{Round}}
+use Rattle.mc_explore.specs.declared.rounds.Round.TheVariants as places
+use Rattle.mc_output.specs.{facts.Parting.{Lacks, lacks_both, lacks_decimal, no_dash, no_part, one_part, one_piece, parted}, facts.Reading.{IsSpelling}}
+use Rattle.mc_start.specs.declared.cursor_fields.StartField.{StartField}
 use Rattle.mc_trailer.specs.declared.tables.Rules.{Rules}
 
 -- The text of a campaign, for a reader that goes cut by cut.
 
 -- ---- a cut
-
--- It is written as a schedule of two cuts.
-pair_text : (cut : ℕ × ℕ) → schedule_text (cut.0 ∷ cut.1 ∷ []) ≡ cut_text cut
-pair_text cut = ap (λ (z : List ℕ). decimal cut.0 ++ z) (append-nil (46 ∷ decimal cut.1))
-
-pair_is : (round index : ℕ) → round < 2 ^ 32 → index < 2 ^ 32 → IsSchedule (round ∷ index ∷ [])
-pair_is round index a b = grind arith
 
 no_comma_digit : (c : ℕ) → c ≡ 44 → 48 ≤ c → c ≤ 57 → ⊥
 no_comma_digit c is low high = omega (arith, is, low)
@@ -32,7 +29,7 @@ same_text (a, b) (c, d) one two is =
     let lacks = λ (n : ℕ) (at_most : n ≤ 2). lacks_decimal 46 no_point_digit n (omega (arith, at_most)) in
     let parts = one_part 46 (decimal a) (decimal c) (decimal b) (decimal d) (lacks a one.round) (lacks c two.round) is in
     let rounds : a ≡ c = decimal_injective a c (omega (arith, one.round)) (omega (arith, two.round)) parts.0 in
-    let schedule : b ≡ d = decimal_injective b d (omega (arith, one.small)) (omega (arith, two.small)) parts.1 in
+    let numbers : b ≡ d = decimal_injective b d (omega (arith, one.small)) (omega (arith, two.small)) parts.1 in
     cc
 
 lacks_comma : (cut : ℕ × ℕ) → IsCut cut → Lacks 44 (cut_text cut)
@@ -40,10 +37,31 @@ lacks_comma cut is =
     lacks_both 44 (decimal cut.0) (46 ∷ decimal cut.1) (lacks_decimal 44 no_comma_digit cut.0 (omega (arith, is.round)))
     (λ (e : 46 ≡ 44). omega (arith, e), lacks_decimal 44 no_comma_digit cut.1 is.small)
 
--- A text that says a cut is read as a schedule of two cuts.
-pub read_pair : {E : Type 0} (text : List ℕ) (result : Result (List ℕ) E) (cut : ℕ × ℕ) → IsCut cut → text ≡ cut_text cut
-    → ((l : List ℕ) → IsSchedule l → text ≡ schedule_text l → result ≡ Ok l) → result ≡ Ok (cut.0 ∷ cut.1 ∷ [])
-read_pair text result cut known is only = only (cut.0 ∷ cut.1 ∷ []) (pair_is cut.0 cut.1 (omega (arith, known.round)) known.small) (is ∙ sym (pair_text cut))
+-- A text is parted at its first point.
+module _ (text : List ℕ) (r : Option (Bor (List ℕ) × Bor (List ℕ))) (split : IsSplitOnceResult 46 text r) where
+  pub no_point : r ≡ None → (cut : ℕ × ℕ) → text ≡ cut_text cut → ⊥
+  no_point none cut is = no_part 46 text (decimal cut.0) (decimal cut.1) (one_piece 46 (omega arith) text r split none) is
+
+  module _ (first after : Bor (List ℕ)) (some : r ≡ Some (first, after)) where
+    -- The parts of the text of a cut are its round and its number.
+    pub parts_are : (cut : ℕ × ℕ) → IsCut cut → text ≡ cut_text cut → (first.now ≡ decimal cut.0) × (after.now ≡ decimal cut.1)
+    parts_are cut known is =
+        let p = parted 46 (omega arith) text r split first after some in
+        one_part 46 first.now (decimal cut.0) after.now (decimal cut.1) p.lacks (lacks_decimal 46 no_point_digit cut.0 (omega (arith, known.round))) (sym p.parts ∙ is)
+
+    -- And a round and a number are those of a cut.
+    pub cut_written : (round : Round) (number : ℕ) → first.now ≡ decimal (number_of round) → after.now ≡ decimal number → number < 2 ^ 32
+        → (text ≡ cut_text (number_of round, number)) × IsCut (number_of round, number)
+    cut_written round number one two small = (
+      (parted 46 (omega arith) text r split first after some).parts
+          ∙ ap (λ (l : List ℕ). l ++ 46 ∷ after.now) one
+          ∙ ap (λ (l : List ℕ). decimal (number_of round) ++ 46 ∷ l) two,
+      is_cut round,
+    )
+      where
+        is_cut : (round : Round) → IsCut (number_of round, number)
+        is_cut places.First = grind arith
+        is_cut places.Second = grind arith
 
 -- ---- cuts in their order
 
@@ -109,5 +127,5 @@ blanks_beyond cuts n cut room blanks =
     drop-set-lt (n + 1) cuts n cut (omega arith)
     ∙ sym (drop-drop 1 n cuts)
     ∙ ap (drop 1) blanks
-    ∙ drop-replicate 1 (16 - n) (0, 0)
-    ∙ ap (λ k. replicate k (0, 0)) (omega arith)
+    ∙ drop-replicate 1 (16 - n) (1, 0)
+    ∙ ap (λ k. replicate k (1, 0)) (omega arith)

@@ -1,6 +1,5 @@
 //! Campaigns of power cuts.
-ghost use Rattle.std.specs.Prelude.{◌≡◌, ◌↔◌, ℕ, List, ◌+◌, ◌*◌, ◌<◌, ◌≤◌, [], ◌∷◌, ◌++◌, length, decimal, false, is_some, true, Some, Ok, IfOk, IfSome, OnOk, OnErr, MatchResult};
-ghost use Rattle.mc_tree.specs.Tree.{Before};
+ghost use Rattle.std.specs.Prelude.{◌≡◌, ◌↔◌, ℕ, List, ◌+◌, ◌<◌, ◌≤◌, ◌^◌, [], ◌∷◌, ◌++◌, length, decimal, true, Some, Ok, IfOk, OnOk, OnErr, MatchOption};
 ghost use Rattle.mc_campaign.specs.Campaigns.{IsInOrder, Precedes, in_round};
 ghost use Rattle.mc_explore.specs.Rounds.{number_of};
 ghost use Rattle.mc_campaign.specs.Texts.{campaign_text, cut_text, FitsCut, IsAdded, IsCampaign, IsCut, ReadsCampaign};
@@ -18,11 +17,33 @@ use thiserror::Error;
 #[error("E62 CampaignSyntax")]
 pub struct CampaignError;
 
-/// At most 16 power cuts in two rounds, each with its round, none of the first after one of the second. A round is power-on with
-/// its cuts and one whole boot; the second starts from the flash that the first leaves. It takes no memory.
+/// A power cut: its round, and after how many operations of its boot the power is lost. A contract sees the pair of the round's
+/// number and this one.
+#[derive(Clone, Copy, Debug, PartialEq, Eq)]
+pub struct Cut {
+    pub round: Round,
+    pub number: u32,
+}
+
+impl Model for Cut {
+    ghost use Rattle.std.specs.Prelude.{ℕ};
+    ghost use Rattle.mc_explore.specs.Rounds.{number_of};
+    ghost use Rattle.mc_campaign.specs.facts.Cuts.{round_again, round_numbered};
+
+    ghost Value = { ℕ × ℕ };
+
+    ghost view = { λ cut. (number_of cut.round, cut.number) };
+
+    ghost inverse = { λ pair. record { round = round_numbered pair.0; number = pair.1 } };
+
+    ghost inverse_ok = { λ cut _ i. record { round = round_again cut.round i; number = cut.number } };
+}
+
+/// At most 16 power cuts in two rounds, none of the first after one of the second. A round is power-on with its cuts and one whole
+/// boot; the second starts from the flash that the first leaves. It takes no memory.
 #[derive(Clone, Copy, Debug)]
 pub struct Campaign {
-    cuts: [(u8, u32); MOST_CUTS],
+    cuts: [Cut; MOST_CUTS],
     len: usize,
 }
 
@@ -43,42 +64,53 @@ impl Model for Campaign {
     ghost inverse_ok = { λ c h i. record { cuts = room_again c.cuts c.len h.1 h.0 h.2 i; len = len_again c.cuts c.len h.1 h.0 i } };
 }
 
-// The number of a round as text.
-fn digit_of(round: u8) -> &'static str
-    requires { (1 ≤ round) × (round ≤ 2) }
-    ensures text { result.now ≡ decimal round }
-    ensures length { length result.now ≡ 1 }
+// The round whose number a text is.
+#[tactic(auto, using(std::proofs::lemmas::Fmt::decimal_digit))]
+fn round_of(text: &str) -> Option<Round>
+    ensures { MatchOption result ((n : ℕ) → 1 ≤ n → n ≤ 2 → text.now ≡ decimal n → ⊥)
+        (λ round. text.now ≡ decimal (number_of round)) }
 {
-    if round == 1 { "1" } else { "2" }
-}
-
-// The cut that a text says, by its round and its number there: two numbers with a point between them, as a schedule of two cuts is
-// written.
-fn cut_of(text: &str) -> Result<(u8, u32), CampaignError>
-    ensures { MatchResult result (λ cut. (text.now ≡ cut_text cut) × IsCut cut)
-        (λ _. (cut : ℕ × ℕ) → IsCut cut → text.now ≡ cut_text cut → ⊥) }
-{
-    let Ok(pair) = Schedule::read(text) else {
-        return Err(CampaignError);
-    };
-    let [number, index] = pair.cuts() else {
-        return Err(CampaignError);
-    };
-    match *number {
-        1 => Ok((1, *index)),
-        2 => Ok((2, *index)),
-        _ => Err(CampaignError),
+    match text {
+        "1" => Some(Round::First),
+        "2" => Some(Round::Second),
+        _ => None,
     }
 }
 
+// The number that a text writes, without leading zeros.
+fn number_of(text: &str) -> Option<u32>
+    ensures { MatchOption result ((n : ℕ) → n < 2 ^ 32 → text.now ≡ decimal n → ⊥)
+        (λ n. text.now ≡ decimal n) }
+{
+    let number = text.parse().ok()?;
+    let mut written = Line::new();
+    written.put_number(number);
+    if written.as_str() == text {
+        Some(number)
+    } else {
+        None
+    }
+}
+
+// The cut that a text says: its round, a point and its number.
+fn cut_of(text: &str) -> Option<Cut>
+    ensures { MatchOption result ((cut : ℕ × ℕ) → IsCut cut → text.now ≡ cut_text cut → ⊥)
+        (λ cut. (text.now ≡ cut_text cut) × IsCut cut) }
+{
+    let (round, number) = text.split_once('.')?;
+    let round = round_of(round)?;
+    let number = number_of(number)?;
+    Some(Cut { round, number })
+}
+
 // The round of the cut of that number, where so many lie in the first.
-fn round_at(in_first: u32, index: usize) -> u8
-    ensures { result ≡ round_at in_first index }
+fn round_at(in_first: u32, index: usize) -> Round
+    ensures { number_of result ≡ round_at in_first index }
 {
     if index < in_first as usize {
-        Round::First.number()
+        Round::First
     } else {
-        Round::Second.number()
+        Round::Second
     }
 }
 
@@ -116,24 +148,26 @@ impl Campaign {
         ensures refused { OnErr result ((cut : ℕ × ℕ) → FitsCut self.old cut
             → text.now ≡ cut_text cut → ⊥) }
     {
-        let (round, index) = cut_of(text)?;
+        let Some(cut) = cut_of(text) else {
+            return Err(CampaignError);
+        };
         if self.len == MOST_CUTS {
             return Err(CampaignError);
         }
-        if round < self.last_round() {
+        if cut.round.number() < self.last_round().number() {
             return Err(CampaignError);
         }
-        self.push(round, index);
+        self.push(cut);
         Ok(())
     }
 
     // The round of its last cut, and the first where it has none.
-    fn last_round(&self) -> u8
-        ensures { result ≡ last_round 1 self.now }
+    fn last_round(&self) -> Round
+        ensures { number_of result ≡ last_round 1 self.now }
     {
-        match self.len {
-            0 => 1,
-            len => self.cuts[len - 1].0,
+        match self.cuts().split_last() {
+            Some((cut, _)) => cut.round,
+            None => Round::First,
         }
     }
 
@@ -141,19 +175,23 @@ impl Campaign {
     pub fn new() -> Campaign
         ensures { result ≡ [] }
     {
+        let none = Cut {
+            round: Round::First,
+            number: 0,
+        };
         Campaign {
-            cuts: [(0, 0); MOST_CUTS],
+            cuts: [none; MOST_CUTS],
             len: 0,
         }
     }
 
     // Adds a cut at the end.
-    pub(crate) fn push(&mut self, round: u8, index: u32)
+    pub(crate) fn push(&mut self, cut: Cut)
         requires room { length self.old < 16 }
-        requires order { IsInOrder (self.old ++ (round, index) ∷ []) }
-        ensures { self.new ≡ self.old ++ (round, index) ∷ [] }
+        requires order { IsInOrder (self.old ++ cut ∷ []) }
+        ensures { self.new ≡ self.old ++ cut ∷ [] }
     {
-        self.cuts[self.len] = (round, index);
+        self.cuts[self.len] = cut;
         self.len += 1;
     }
 
@@ -162,9 +200,9 @@ impl Campaign {
         ensures { result ≡ campaign_of cuts.now }
     {
         let mut campaign = Campaign::new();
-        for number in cuts.numbers.cuts() {
+        for &number in cuts.numbers.cuts() {
             let round = round_at(cuts.in_first, campaign.len());
-            campaign.push(round, *number);
+            campaign.push(Cut { round, number });
         }
         campaign
     }
@@ -177,8 +215,8 @@ impl Campaign {
         self.len
     }
 
-    /// The cuts, each with the number of its round, in their order.
-    pub fn cuts(&self) -> &[(u8, u32)]
+    /// The cuts, in their order.
+    pub fn cuts(&self) -> &[Cut]
         ensures value { result.now ≡ self.now }
         ensures at_most { length result.now ≤ 16 }
         ensures order { IsInOrder result.now }
@@ -198,26 +236,19 @@ impl Campaign {
     pub fn schedule(&self, round: Round) -> Schedule
         ensures { result ≡ in_round (number_of round) self.now }
     {
-        let of = round.number();
         let mut schedule = Schedule::new();
-        for (number, index) in self.cuts() {
-            if *number == of {
-                schedule.push(*index);
+        for cut in self.cuts() {
+            if cut.round == round {
+                schedule.push(cut.number);
             }
         }
         schedule
     }
 }
 
-// Whether a cut comes before another: by its round, and then by its place.
-fn is_earlier(cut: (u8, u32), other: (u8, u32)) -> bool
-    ensures { (result ≡ true) ↔ Before cut other }
-{
-    cut.0 < other.0 || (cut.0 == other.0 && cut.1 < other.1)
-}
-
-// Whether some cuts come before others: a proper prefix does, else the first cut that differs decides.
-fn come_before(cuts: &[(u8, u32)], others: &[(u8, u32)]) -> bool
+// Whether some cuts come before others: a proper prefix does, else the first cut that differs decides, by its round and then by its
+// number.
+fn come_before(cuts: &[Cut], others: &[Cut]) -> bool
     ensures { (result ≡ true) ↔ Precedes cuts.now others.now }
 {
     let Some((other, others)) = others.split_first() else {
@@ -226,23 +257,24 @@ fn come_before(cuts: &[(u8, u32)], others: &[(u8, u32)]) -> bool
     let Some((cut, cuts)) = cuts.split_first() else {
         return true;
     };
-    if cut.0 == other.0 && cut.1 == other.1 {
-        come_before(cuts, others)
-    } else {
-        is_earlier(*cut, *other)
+    match (cut.round, other.round) {
+        (Round::First, Round::Second) => true,
+        (Round::Second, Round::First) => false,
+        _ if cut.number == other.number => come_before(cuts, others),
+        _ => cut.number < other.number,
     }
 }
 
 // Adds a cut to a line: its round, a point and its number.
-fn put_cut(line: &mut Line, cut: (u8, u32))
-    requires room { length line.old + 12 ≤ MOST_LINE }
-    requires round { (1 ≤ cut.0) × (cut.0 ≤ 2) }
+#[tactic(auto, using(std::proofs::lemmas::Fmt::decimal_digit, std::proofs::lemmas::Grind::common_steps))]
+fn put_cut(line: &mut Line, cut: Cut)
+    requires { length line.old + 12 ≤ MOST_LINE }
     ensures text { line.new ≡ line.old ++ cut_text cut }
     ensures length { length line.new ≤ length line.old + 12 }
 {
-    line.put(digit_of(cut.0));
+    line.put_number(u32::from(cut.round.number()));
     line.put(".");
-    line.put_number(cut.1);
+    line.put_number(cut.number);
 }
 
 impl Campaign {

@@ -8,32 +8,23 @@ ghost use Rattle.mc_explore.specs.declared.rounds.Rounds.TheVariants.{Two};
 ghost use Rattle.mc_explore.specs.inner.BootTree.{AreSummaries};
 ghost use Rattle.mc_explore.specs.inner.Exploring.{NoAllocationFailed};
 
-use crate::campaign::Campaign;
+use crate::campaign::{Campaign, Cut};
 use mc_explore::{BootTree, Both, Round};
 use mc_flash::Flash;
 use mc_walk::Walk;
 use std::alloc::AllocError;
 
 // The number of the child of a node at that cut, if it has one: the children in the second round stand after those in the first.
-fn child_of(summary: &Both, cut: (u8, u32)) -> Option<u32>
+fn child_of(summary: &Both, cut: Cut) -> Option<u32>
     ensures { (start : PowerOn) (confirms : Bool) (p : RoundNode PowerOn) → IsLayout start.geometry
         → AreSummaries start (Two confirms) p summary.now → HasChildOf confirms p cut result }
 {
-    match summary.round {
-        Round::First => {
-            if cut.0 == 2 {
-                return summary.first.outcome.ops.checked_add(cut.1);
-            }
-            if cut.0 != 1 {
-                return None;
-            }
-            if cut.1 < summary.first.outcome.ops {
-                Some(cut.1)
-            } else {
-                None
-            }
-        }
-        Round::Second => { if cut.0 == 2 { Some(cut.1) } else { None } }
+    let ops = summary.first.outcome.ops;
+    match (summary.round, cut.round) {
+        (Round::First, Round::First) if cut.number < ops => Some(cut.number),
+        (Round::First, Round::Second) => ops.checked_add(cut.number),
+        (Round::Second, Round::Second) => Some(cut.number),
+        _ => None,
     }
 }
 

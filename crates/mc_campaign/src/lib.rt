@@ -13,7 +13,7 @@ mod pages;
 mod row;
 mod row_text;
 
-pub use campaign::{Campaign, CampaignError};
+pub use campaign::{Campaign, CampaignError, Cut};
 pub use campaign_replays::{replay_campaign, start_of_second};
 pub use campaign_subject::{CampaignExplorer, Campaigns};
 pub use cursor::CampaignCursor;

@@ -1,8 +1,19 @@
 -- Cuts, each with its round.
-use Rattle.std.specs.Prelude.{◌≡◌, ℕ, zero, suc, ◌+◌, ◌-◌, ◌<◌, ◌≤◌, get_or, nat_lt, if◌then◌else◌, Bool, true, false, List, [], ◌∷◌, ◌++◌, length, refl}
+use Rattle.std.specs.Prelude.{◌≡◌, ℕ, suc, ◌+◌, ◌-◌, ◌≤◌, nat_lt, if◌then◌else◌, Bool, true, false, List, [], ◌∷◌, ◌++◌, length, refl}
 use Rattle.std.proofs.{Common.{arith, inl, inr, sym, ap, subst, ◌∙◌, length-append}, lemmas.Bool.{cases_lt}, lemmas.List.{length-map}}
 use Rattle.mc_tree.specs.Tree.{Tree, RoundNode, round_one, round_two, labels, pairs}
 use Rattle.mc_campaign.specs.Campaigns.{AscendFrom, IsInOrder, in_round}
+use Rattle.mc_explore.specs.{Rounds.{number_of}, declared.rounds.Round.{Round}}
+use Rattle.mc_explore.specs.declared.rounds.Round.TheVariants as places
+
+-- The round of that number.
+abbrev pub round_numbered : ℕ → Round
+round_numbered (suc (suc n)) = places.Second
+round_numbered n = places.First
+
+pub round_again : (round : Round) → round_numbered (number_of round) ≡ round
+round_again places.First = refl
+round_again places.Second = refl
 
 pub pairs_length : (prefix later : List ℕ) → length (pairs prefix later) ≡ length prefix + length later
 pairs_length prefix later = grind (arith, length-append, length-map)
@@ -54,11 +65,6 @@ ordered (x ∷ prefix) later = (omega arith, omega arith, ordered prefix later)
 pub ordered_prefix : (n : ℕ) (l m : List (ℕ × ℕ)) → AscendFrom n (l ++ m) → AscendFrom n l
 ordered_prefix n [] m o = tt
 ordered_prefix n (x ∷ l) m o = (o.0, o.1, ordered_prefix x.0 l m o.2)
-
-pub ordered_at : (n : ℕ) (l : List (ℕ × ℕ)) (i : ℕ) → i < length l → AscendFrom n l → (n ≤ (get_or l i (0, 0)).0) × ((get_or l i (0, 0)).0 ≤ 2)
-ordered_at n [] i lt o = absurd (omega (arith, lt))
-ordered_at n (x ∷ l) zero lt o = (o.0, o.1)
-ordered_at n (x ∷ l) (suc i) lt o = let rest = ordered_at x.0 l i (omega (arith, lt)) o.2 in (omega (arith, o.0, rest.0), rest.1)
 
 -- The round of the last cut, and that one where there is none.
 abbrev pub last_round : ℕ → List (ℕ × ℕ) → ℕ

@@ -3,7 +3,7 @@ use Rattle.std.specs.Prelude.{◌≡◌, ℕ, ◌-◌, ◌≤◌, List, ◌++◌
 use Rattle.std.proofs.{Common.{arith}, lemmas.List.{take-append-drop, length-take-le}}
 
 abbrev pub blanks_after : ℕ → List (ℕ × ℕ)
-blanks_after n = replicate (16 - n) (0, 0)
+blanks_after n = replicate (16 - n) (1, 0)
 
 pub len_again : (room : List (ℕ × ℕ)) (len : ℕ) → length room ≡ 16 → len ≤ 16 → length (take len room) ≡ len
 len_again room len whole at_most = length-take-le len room (omega arith)

@@ -1,25 +1,19 @@
-use Rattle.std.specs.Prelude.{◌≡◌, List, ℕ, [], ◌∷◌, length, get_or}
-use Rattle.std.proofs.Common.{arith, ap, ◌∙◌}
-use Rattle.mc_campaign.proofs.Reading.{read_pair}
+use Rattle.std.proofs.Common.{arith}
+use Rattle.mc_campaign.proofs.Reading.{cut_written, no_point, parts_are}
 use Rattle.mc_campaign.proofs.campaign.cut_of.Goals as goal
 
-pub returns-in_default : goal.returns-in_default
-returns-in_default c = λ cut known is. let read = read_pair c.args.text.now c.read.result cut known is c.read.ensures.only in absurd cc
+pub returns-in_err-round : goal.returns-in_err-round
+returns-in_err-round c = rw c.from_residual.ensures (λ cut known is. no_point c.args.text.now c.split_once.result c.split_once.ensures.cases c.in_err-round.was cut is)
 
-pub returns-in_default-cuts : goal.returns-in_default-cuts
-returns-in_default-cuts c = λ cut known is.
-    let read = read_pair c.args.text.now c.read.result cut known is c.read.ensures.only in
-    let same : c.in-Ok.pair ≡ cut.0 ∷ cut.1 ∷ [] = cc in
-    omega (arith, c.in_default-cuts, ap (λ (l : List ℕ). length l) (c.cuts.ensures.value ∙ same))
+pub returns-in_err-round-2 : goal.returns-in_err-round-2
+returns-in_err-round-2 c = rw c.from_residual-in_err-round-2.ensures (λ cut known is. c.in_err-round-2.ensures cut.0 known.some known.round
+    (parts_are _ _ c.split_once.ensures.cases c.in_ok-round.round c.in_ok-round.number c.in_ok-round.was cut known is).0)
 
-pub returns-in_default-cuts-2 : goal.returns-in_default-cuts-2
-returns-in_default-cuts-2 c = λ cut known is.
-    let read = read_pair c.args.text.now c.read.result cut known is c.read.ensures.only in
-    let same : c.in-Ok.pair ≡ cut.0 ∷ cut.1 ∷ [] = cc in
-    omega (arith, c.in_default-cuts, ap (λ (l : List ℕ). length l) (c.cuts.ensures.value ∙ same))
+pub returns-in_err-number : goal.returns-in_err-number
+returns-in_err-number c = rw c.from_residual-in_err-number.ensures (λ cut known is. c.in_err-number.ensures cut.1 known.small
+    (parts_are _ _ c.split_once.ensures.cases c.in_ok-round.round c.in_ok-round.number c.in_ok-round.was cut known is).1)
 
-pub returns-in_default-number : goal.returns-in_default-number
-returns-in_default-number c = λ cut known is.
-    let read = read_pair c.args.text.now c.read.result cut known is c.read.ensures.only in
-    let same : c.in-Ok.pair ≡ cut.0 ∷ cut.1 ∷ [] = cc in
-    omega (arith, c.in_default-number, known.some, known.round, ap (λ (l : List ℕ). get_or l 0 0) (c.cuts.ensures.value ∙ same))
+pub returns : goal.returns
+returns c =
+    cut_written _ _ c.split_once.ensures.cases c.in_ok-round.round c.in_ok-round.number c.in_ok-round.was c.in_ok-round-2.round c.in_ok-number.number
+    c.in_ok-round-2.ensures c.in_ok-number.ensures (omega arith)
