@@ -2,7 +2,7 @@
 use Rattle.std.specs.{Io.KnownBytes.{Keeps}, Prelude.{Err, List, None, Ok, Option, Result, Some, codes, ℕ, ◌≡◌, ◌⊎◌}, Borrow.{Bor}}
 use Rattle.clap.specs.{Words.{first_value}, declared.parser.matches.Found.{Found}}
 use Rattle.mc_actions.specs.declared.creation.Creation.{Creation}
-use Rattle.mc_cli.specs.Files.{Holds}
+use Rattle.mc_cli.specs.Files.{Holds, MayBeOne}
 use Rattle.mc_imgtool.specs.{Created.{created}, declared.error.ToolError.{ToolError}}
 use Rattle.mc_imgtool.specs.Engines as engines
 use Rattle.mc_options.specs.{Arguments.{GivesCreate, IsFlag}, Outfiles.{IsUnfinished}, Refusals.{LacksCreate, LacksOption}, Requests.{End}, declared.refusal.Refusal.{Refusal}}
@@ -64,5 +64,6 @@ pub record MakesImage (c : Creation) (known before after : Option (List ℕ)) (e
 pub record AnswersCreate (c : Creation) (holds : Holds) (known before after : Option (List ℕ)) (end : End) : Type 0 where
   pub piped : IsStandard c.infile → MakesImage c known before after end
   pub read : (IsStandard c.infile → ⊥)
-      → ((end ≡ Err refusals.SameFile) × (after ≡ before)) ⊎ AnswersFile (MakesImage c) (holds c.infile.now) before after end
+      → ((end ≡ Err refusals.SameFile) × (after ≡ before) × MayBeOne holds c.infile.now c.outfile.now)
+      ⊎ AnswersFile (MakesImage c) (holds c.infile.now) before after end
   pub apart : (IsStandard c.infile → ⊥) → c.infile.now ≡ c.outfile.now → end ≡ Err refusals.SameFile

@@ -1,24 +1,22 @@
 -- What is asked of a device's life, and what answers it.
-use Rattle.std.specs.{Prelude.{All, Bool, Err, List, None, Ok, Option, Result, Some, codes, false, is_some, option_map, replicate, true, ℕ, ◌++◌, ◌^◌, ◌≡◌, ◌⊎◌}, Borrow.{Bor}, Io.KnownBytes.{Appends, Keeps}}
+use Rattle.std.specs.{Prelude.{All, Bool, Contains, Err, IsSomeAnd, List, None, Ok, Option, Result, Some, codes, false, is_some, option_map, replicate, true, ℕ, ◌++◌, ◌^◌, ◌≡◌, ◌≢◌, ◌⊎◌}, Io.KnownBytes.{Appends, Keeps}}
 use Rattle.clap.specs.{Words.{first_value}, declared.parser.matches.Found.{Found}}
 use Rattle.mc_actions.specs.{Schedules.{IsFlashUnwritten}, declared.life.Life.{Life}}
 use Rattle.mc_boot.specs.declared.kind.Kind.TheVariants as starts
-use Rattle.mc_cli.specs.Files.{Holds}
+use Rattle.mc_cli.specs.Files.{Holds, MayBeOne}
 use Rattle.mc_flash.specs.{Flash.{Content, size_of}, Geometry.{Geometry}, declared.op.Slot.TheVariants.{Secondary}}
 use Rattle.mc_life.specs.{Device.{Counts, OfWear, Standing}, Replay.{FailsLife, IsReplayed}, Script.{Named, Names, Reads as ReadsScript, file_of, sayings}, declared.life.LifeError.{LifeError}, declared.error.ScriptError.{ScriptError}}
-use Rattle.mc_options.specs.{Arguments.{GivesLayout, GivesRules, IsFlag, KeepsFiles}, Refusals.{HasText, IsLost, LacksLayout, LacksRules}, Requests.{End}, Sources.{Reads, RefusesFile}, declared.refusal.Refusal.{Refusal}}
+use Rattle.mc_options.specs.{Arguments.{GivesLayout, GivesRules, IsFlag, KeepsFiles}, Refusals.{HasText, IsLost, LacksLayout, LacksRules}, Requests.{End}, Sources.{FailsFlash, IsFlashed, Reads, RefusesFile}, declared.refusal.Refusal.{Refusal}}
 use Rattle.mc_options.specs.declared.refusal.Refusal.TheVariants as refusals
 use Rattle.mc_output.specs.Text.{AppendsPrefix}
-use Rattle.mc_start.specs.{Start.{Started, Starts, of_flash}, declared.start.StartError.{StartError}}
+use Rattle.mc_start.specs.{Start.{Gives, Started, Starts, of_flash}, declared.start.StartError.{StartError}}
 
 -- A device is delivered with a flash, or with an image in the primary, all else blank.
-abbrev pub IsFlashed : Holds → Geometry → List ℕ → Content → Type 0
-IsFlashed holds g path content = (bytes : List ℕ) × Reads (holds path) (2 ^ 25) bytes × (of_flash g bytes ≡ Ok content)
+abbrev pub with_blank : Geometry → Started → List ℕ
+with_blank g images = images.content.primary ++ replicate (size_of g Secondary) 255
 
 abbrev pub HoldsAlone : Geometry → List ℕ → Content → Type 0
-HoldsAlone g image content =
-    (images : Started) × Starts g starts.None image image (Ok images)
-    × (of_flash g (images.content.primary ++ replicate (size_of g Secondary) 255) ≡ Ok content)
+HoldsAlone g image content = (images : Started) × Starts g starts.None image image (Ok images) × (of_flash g (with_blank g images) ≡ Ok content)
 
 abbrev pub IsDelivered : Holds → Geometry → List ℕ → Content → Type 0
 IsDelivered holds g path content = (image : List ℕ) × Reads (holds path) (2 ^ 24) image × HoldsAlone g image content
@@ -65,34 +63,64 @@ pub record GivesLife (holds : Holds) (input : Option (List ℕ)) (found : Found)
   pub out : option_map (λ path. path.now) l.out ≡ first_value found (codes "out")
   pub kept : KeepsFiles found
 
--- What a device is delivered with is given twice, or not at all; or it is not read, or makes no start, or an allocation failed.
+-- What a device is delivered with is given twice, or not at all.
 abbrev pub LacksDevice : Found → Refusal → Type 0
 LacksDevice found e = (e ≡ refusals.Device) × (is_some (first_value found (codes "flash")) ≡ is_some (first_value found (codes "image")))
 
-abbrev pub IsOfDevice : Refusal → Type 0
-IsOfDevice e = ((error : StartError) × (e ≡ refusals.Start error)) ⊎ (e ≡ refusals.Memory)
+-- An image alone makes no device: it is refused, or the flash with it is; or an allocation failed.
+abbrev pub RefusesAlone : Geometry → List ℕ → StartError → Type 0
+RefusesAlone g image error =
+    Starts g starts.None image image (Err error)
+    ⊎ ((images : Started) × Starts g starts.None image image (Ok images) × Gives g (Err error) (of_flash g (with_blank g images)))
 
-abbrev pub FailsDevice : Holds → Found → Refusal → Type 0
-FailsDevice holds found e =
-    (HasText found (codes "flash") (λ path. RefusesFile (holds path) (2 ^ 25) e) ⊎ HasText found (codes "image") (λ path. RefusesFile (holds path) (2 ^ 24) e))
-    ⊎ IsOfDevice e
+abbrev pub FailsAlone : Geometry → List ℕ → Refusal → Type 0
+FailsAlone g image e = (e ≡ refusals.Memory) ⊎ ((error : StartError) × (e ≡ refusals.Start error) × RefusesAlone g image error)
 
--- A script is not read; or a file that it names, which can be opened, or it is the file that is to be written; or an allocation failed.
+-- Its file is not read, or its bytes make no device.
+abbrev pub FailsImage : Holds → Geometry → List ℕ → Refusal → Type 0
+FailsImage holds g path e =
+    RefusesFile (holds path) (2 ^ 24) e ⊎ ((image : List ℕ) × Reads (holds path) (2 ^ 24) image × FailsAlone g image e)
+
+abbrev pub FailsDevice : Holds → Found → Geometry → Refusal → Type 0
+FailsDevice holds found g e = HasText found (codes "flash") (λ path. FailsFlash holds g path e) ⊎ HasText found (codes "image") (λ path. FailsImage holds g path e)
+
+-- A script is not read.
 abbrev pub FailsScript : Holds → Option (List ℕ) → Found → Refusal → Type 0
 FailsScript holds input found e =
     ((e ≡ refusals.Open) × HasText found (codes "SCRIPT") (λ path. holds path ≡ None))
     ⊎ ((error : ScriptError) × (e ≡ refusals.Script error) × GivesScript holds input found (Err error))
 
-abbrev pub LacksFile : Holds → Refusal → Type 0
-LacksFile holds e = ((name : List ℕ) × RefusesFile (holds name) (2 ^ 24) e) ⊎ (e ≡ refusals.Memory)
+-- What is read of a file that can be opened is refused; or an allocation failed.
+abbrev pub FailsFile : Holds → List ℕ → Refusal → Type 0
+FailsFile holds name e = (RefusesFile (holds name) (2 ^ 24) e × (e ≢ refusals.Open)) ⊎ (e ≡ refusals.Memory)
 
-abbrev pub LacksShelf : Holds → Option (Bor (List ℕ)) → Refusal → Type 0
-LacksShelf holds out e = LacksFile holds e ⊎ ((e ≡ refusals.SameFile) × (is_some out ≡ true))
+-- Or it is the file that is to be written.
+abbrev pub IsOutfile : Holds → List ℕ → Option (List ℕ) → Refusal → Type 0
+IsOutfile holds name out e = (e ≡ refusals.SameFile) × IsSomeAnd out (MayBeOne holds name)
+
+-- One of the files that a script names is refused; or an allocation failed.
+pub record RefusesNamed (holds : Holds) (script : List ℕ) (out : Option (List ℕ)) (e : Refusal) : Type 0 where
+  pub names : List (List ℕ)
+  pub named : Names (sayings script) names
+  pub name : List ℕ
+  pub among : Contains names name
+  pub refused : FailsFile holds name e ⊎ IsOutfile holds name out e
+
+abbrev pub FailsShelf : Holds → List ℕ → Option (List ℕ) → Refusal → Type 0
+FailsShelf holds script out e = RefusesNamed holds script out e ⊎ (e ≡ refusals.Memory)
+
+-- Why the words of `life`, its files and its script ask for nothing.
+abbrev pub LacksDelivered : Holds → Found → Refusal → Type 0
+LacksDelivered holds found e = LacksDevice found e ⊎ ((g : Geometry) × GivesLayout found g × FailsDevice holds found g e)
+
+abbrev pub LacksShelf : Holds → Option (List ℕ) → Found → Refusal → Type 0
+LacksShelf holds input found e =
+    (script : List ℕ) × GivesScript holds input found (Ok script) × FailsShelf holds script (first_value found (codes "out")) e
 
 abbrev pub LacksLife : Holds → Option (List ℕ) → Found → Refusal → Type 0
 LacksLife holds input found e =
     (LacksLayout found e ⊎ LacksRules found e)
-    ⊎ ((IsLost found e ⊎ (LacksDevice found e ⊎ FailsDevice holds found e)) ⊎ (FailsScript holds input found e ⊎ LacksFile holds e))
+    ⊎ ((IsLost found e ⊎ LacksDelivered holds found e) ⊎ (FailsScript holds input found e ⊎ LacksShelf holds input found e))
 
 -- What was erased is out, where that is asked for.
 abbrev pub IsWearOut : Bool → Counts → Option (List ℕ) → Option (List ℕ) → Type 0

@@ -92,9 +92,12 @@ pub record AreFlashes (a : VectorsAsked) (t : Table) : Type 0 where
   pub found : AreFound a (bound_of a.cuts) t
   pub whole : a.cuts ≡ cuts.Any → is_whole t ≡ true
 
--- When there are none: any number of cuts is asked for, and those that 16 leave may lead to more; or an allocation failed.
+-- When there are none: any number of cuts is asked for, and those that are found of 16 may lead to more; or an allocation failed.
+abbrev pub LeadsOn : VectorsAsked → Type 0
+LeadsOn a = (a.cuts ≡ cuts.Any) × (t : Table) × AreFound a 16 t × (is_whole t ≡ false)
+
 abbrev pub RefusesSearch : VectorsAsked → Refusal → Type 0
-RefusesSearch a e = ((e ≡ refusals.MoreCuts) × (a.cuts ≡ cuts.Any)) ⊎ (e ≡ refusals.Explore errors.Memory)
+RefusesSearch a e = ((e ≡ refusals.MoreCuts) × LeadsOn a) ⊎ (e ≡ refusals.Explore errors.Memory)
 
 -- The table; or, where it goes into a folder, how many flashes it has, and whether it is whole.
 pub record FlashesFound (a : VectorsAsked) : Type 0 where

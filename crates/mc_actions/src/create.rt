@@ -7,7 +7,7 @@ ghost use Rattle.mc_options.specs.Arguments.{IsReady};
 use crate::creation::Creation;
 use crate::infile::open_infile;
 use mc_cli::{KnownFiles, WatchedFiles};
-use mc_options::{Outfile, Refusal, is_same_file};
+use mc_options::{Outfile, Refusal};
 use std::alloc::Global;
 use std::io::{Read, Write};
 use std::rt::Files;
@@ -38,7 +38,7 @@ pub fn answer<F: KnownFiles, R: Read, O: Write>(
     if infile == STANDARD {
         return make_from(files, alloc, creation, input, out);
     }
-    if is_same_file(files, infile, creation.outfile()) {
+    if files.is_same_file(infile, creation.outfile()) {
         return Err(Refusal::SameFile);
     }
     let mut file = open_infile(files, infile)?;

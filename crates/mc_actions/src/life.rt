@@ -1,7 +1,7 @@
 //! `life`: what happens to a device, replayed event by event.
-ghost use Rattle.std.specs.Prelude.{◌≡◌, ◌≤◌, ◌⊎◌, ℕ, List, Option, IfErr, IfOk, MatchResult, OnErr, OnOk, length};
+ghost use Rattle.std.specs.Prelude.{◌≡◌, ◌≢◌, ◌≤◌, ◌⊎◌, ℕ, List, Option, IfErr, IfOk, MatchResult, OnErr, OnOk, length, option_map};
 ghost use Rattle.clap.specs.Matches.{found_of};
-ghost use Rattle.mc_actions.specs.Lives.{AddsFile, AnswersLife, FailsDevice, FailsScript, GivesDevice, GivesLife, GivesScript, HoldsAlone, IsOfDevice, IsShelfOf, IsWearOut, LacksDevice, LacksFile, LacksLife, LacksShelf, StopsLife};
+ghost use Rattle.mc_actions.specs.Lives.{AddsFile, AnswersLife, FailsAlone, FailsDevice, FailsFile, FailsScript, FailsShelf, GivesDevice, GivesLife, GivesScript, HoldsAlone, IsShelfOf, IsWearOut, LacksDevice, LacksLife, StopsLife};
 ghost use Rattle.mc_life.specs.Device.{OfWear};
 ghost use Rattle.mc_life.specs.Replay.{IsReplayed};
 ghost use Rattle.mc_options.specs.Arguments.{GivesLayout, GivesRules, KeepsFiles};
@@ -17,8 +17,8 @@ use mc_life::{
     Device, Event, EventError, File, LifeError, Script, find, replay_life, said, write_wear,
 };
 use mc_options::{
-    GREATEST_FLASH, GREATEST_IMAGE, Refusal, check_outputs, is_same_file, layout_options,
-    read_file, rules_options,
+    GREATEST_FLASH, GREATEST_IMAGE, Refusal, check_outputs, layout_options, read_file,
+    rules_options,
 };
 use mc_output::WriteFailed;
 use std::alloc::Global;
@@ -34,7 +34,7 @@ use std::rt::Files;
 fn delivered(alloc: Global, layout: &Layout, image: &[u8]) -> Result<Start, Refusal>
     ensures layout { IfOk result (λ start. start.geometry ≡ layout.now) }
     ensures content { IfOk result (λ start. HoldsAlone layout.now image.now start.content) }
-    ensures refused { IfErr result IsOfDevice }
+    ensures refused { IfErr result (FailsAlone layout.now image.now) }
 {
     let images = Start::from_images(alloc, layout, Kind::None, image, image)?;
     let primary = images.primary();
@@ -59,8 +59,8 @@ fn start_of<F: KnownFiles>(
     ensures layout { IfOk result (λ start. start.geometry ≡ layout.now) }
     ensures device { IfOk result (λ start. GivesDevice (F.holds files.now)
         (found_of arguments.now) layout.now start.content) }
-    ensures refused { let found = found_of arguments.now in IfErr result (λ e. LacksDevice found e
-        ⊎ FailsDevice (F.holds files.now) found e) }
+    ensures refused { IfErr result (λ e. LacksDevice (found_of arguments.now) e
+        ⊎ FailsDevice (F.holds files.now) (found_of arguments.now) layout.now e) }
 {
     match (arguments.get_str("flash"), arguments.get_str("image")) {
         (Some(path), None) => {
@@ -100,6 +100,21 @@ fn read_device<F: KnownFiles>(
     Ok(start.with_rules(rules))
 }
 
+/// What is refused of a file, unless it cannot be opened: then the event that names it is refused.
+///
+/// # Errors
+///
+/// What is refused.
+fn unless_unopened(refusal: Refusal) -> Result<(), Refusal>
+    ensures unopened { OnOk result (refusal ≡ Refusal.Open) }
+    ensures refused { IfErr result (λ e. (e ≡ refusal) × (e ≢ Refusal.Open)) }
+{
+    match refusal {
+        Refusal::Open => Ok(()),
+        _ => Err(refusal),
+    }
+}
+
 /// Adds a file by its name, if it is not there yet and can be opened.
 ///
 /// # Errors
@@ -113,16 +128,14 @@ fn add_file<F: KnownFiles>(
 ) -> Result<(), Refusal>
     ensures added { OnOk result (AddsFile (F.holds files.now) name.now shelf.old.items
         shelf.new.items) }
-    ensures refused { IfErr result (LacksFile (F.holds files.now)) }
+    ensures refused { IfErr result (FailsFile (F.holds files.now) name.now) }
 {
     if find(shelf, name).is_some() {
         return Ok(());
     }
     let bytes = match read_file(files, alloc, name, GREATEST_IMAGE) {
         Ok(bytes) => bytes,
-        // The event that names it is refused.
-        Err(Refusal::Open) => return Ok(()),
-        Err(refusal) => return Err(refusal),
+        Err(refusal) => return unless_unopened(refusal),
     };
     let file = File::new(alloc, name, bytes)?;
     let Ok(()) = shelf.push(file) else {
@@ -143,13 +156,14 @@ fn read_shelf<F: KnownFiles>(
     outfile: Option<&str>,
 ) -> Result<Vec<File>, Refusal>
     ensures shelf { IfOk result (λ shelf. IsShelfOf (F.holds files.now) script.now shelf.items) }
-    ensures refused { IfErr result (LacksShelf (F.holds files.now) outfile.entry) }
+    ensures refused { IfErr result (FailsShelf (F.holds files.now) script.now
+        (option_map (λ path. path.now) outfile.entry)) }
 {
     let names = script.names(alloc)?;
     let mut shelf = Vec::new(alloc);
     'names: for name in &names {
         if let Some(outfile) = outfile
-            && is_same_file(files, name, outfile)
+            && files.is_same_file(name, outfile)
         {
             return Err(Refusal::SameFile);
         }

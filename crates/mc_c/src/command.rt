@@ -1,9 +1,10 @@
 //! A whole command line.
-ghost use Rattle.std.specs.Prelude.{◌≡◌, ◌≤◌, length};
+ghost use Rattle.std.specs.Prelude.{◌≡◌, ◌≤◌, [], IfErr};
+ghost use Rattle.mc_c.specs.Lines.{IsNoLine, RunsCall, RunsOver};
 
 use crate::disk::Disk;
 use crate::put;
-use mc_command::run;
+use mc_command::{WatchedWriter, run};
 use mc_options::Refusal;
 use std::alloc::{AllocError, Global};
 use std::cell::RefCell;
@@ -26,13 +27,35 @@ fn split_words(alloc: Global, text: &str) -> Result<Vec<String>, AllocError> {
 }
 
 // The words of a command line.
-fn words_of(alloc: Global, bytes: &[u8]) -> Result<Vec<String>, Refusal> {
+fn words_of(alloc: Global, bytes: &[u8]) -> Result<Vec<String>, Refusal>
+    ensures { IfErr result (IsNoLine bytes.now) }
+{
     let Ok(text) = std::str::from_utf8(bytes) else {
         return Err(Refusal::NotText);
     };
     match split_words(alloc, text) {
         Ok(words) => Ok(words),
         Err(_) => Err(Refusal::Memory),
+    }
+}
+
+// Runs a command line over files in memory, where its words are text.
+fn run_over(
+    disk: &Disk<'_>,
+    alloc: Global,
+    words: &[u8],
+    input: &[u8],
+    printed: &mut WatchedWriter<Vec<u8>>,
+    refused: &mut Vec<u8>,
+) -> u8
+    requires { printed.old.writer.items ≡ [] }
+    ensures runs { RunsOver disk.now words.now input.now printed.new.writer.items result }
+    ensures range { result ≤ 3 }
+{
+    let mut input = input;
+    match words_of(alloc, words) {
+        Ok(words) => run(disk, alloc, words.as_slice(), &mut input, printed, refused),
+        Err(refusal) => refusal.report(refused),
     }
 }
 
@@ -54,32 +77,22 @@ pub extern "C" fn mcsim_run(
     file: &mut [u8],
     lengths: &mut Lengths,
 ) -> u32
-    ensures { result ≤ 3 }
+    // What is printed, and the status, are those of the command line over these files.
+    ensures runs { RunsCall (a.now, b.now, c.now) words.now input.now out.new lengths.new.out
+        result }
+    ensures range { result ≤ 3 }
 {
-    let mut printed = Vec::new(alloc);
+    let mut printed = WatchedWriter::new(Vec::new(alloc));
     let mut refused = Vec::new(alloc);
     let written = RefCell::new(Vec::new(alloc));
-    let status = match words_of(alloc, words) {
-        Ok(words) => {
-            let disk = Disk {
-                a,
-                b,
-                c,
-                out: &written,
-            };
-            let mut input = input;
-            run(
-                &disk,
-                alloc,
-                words.as_slice(),
-                &mut input,
-                &mut printed,
-                &mut refused,
-            )
-        }
-        Err(refusal) => refusal.report(&mut refused),
+    let disk = Disk {
+        a,
+        b,
+        c,
+        out: &written,
     };
-    lengths.out = put(out, printed.as_slice());
+    let status = run_over(&disk, alloc, words, input, &mut printed, &mut refused);
+    lengths.out = put(out, printed.writer.as_slice());
     lengths.err = put(err, refused.as_slice());
     lengths.file = match written.try_borrow() {
         Ok(bytes) => put(file, bytes.as_slice()),

@@ -170,4 +170,8 @@ impl<'a> KnownFiles for Disk<'a> {
             None => fs::open(self, path),
         }
     }
+
+    fn is_same_file(&self, first: &str, second: &str) -> bool {
+        first == second
+    }
 }

@@ -11,5 +11,5 @@ mod watched;
 pub use command::parse;
 pub use explanations::{Explanation, all_explanations, explanation_of};
 pub use imgtool::left_out;
-pub use known::KnownFiles;
+pub use known::{KnownFiles, have_one_number};
 pub use watched::{Failed, WatchedFiles, WatchedWriter};

@@ -27,8 +27,12 @@ pub struct WatchedFiles<'f, F: Files> {
 }
 
 impl<'f, F: Files> WatchedFiles<'f, F> {
+    ghost use Rattle.std.specs.Prelude.{◌≡◌};
+
     /// None of them was opened yet.
-    pub fn new(files: &'f F, alloc: Global) -> WatchedFiles<'f, F> {
+    pub fn new(files: &'f F, alloc: Global) -> WatchedFiles<'f, F>
+        ensures { result.files ≡ files.entry }
+    {
         WatchedFiles {
             files,
             alloc,
@@ -156,27 +160,41 @@ impl<F: KnownFiles> KnownFiles for WatchedFiles<'_, F> {
             }
         }
     }
+
+    fn is_same_file(&self, first: &str, second: &str) -> bool {
+        self.files.is_same_file(first, second)
+    }
 }
 
 /// The same writer, with why its last write, or handing on what it held, failed, if it did.
 #[derive(Drop)]
 pub struct WatchedWriter<W: Write + Drop> {
-    writer: W,
-    failure: Option<io::Error>,
+    pub writer: W,
+    /// Why the last write failed, or that it took no bytes, if it did.
+    pub failure: Option<io::Error>,
 }
 
 impl<W: Write + Drop> WatchedWriter<W> {
+    ghost use Rattle.std.specs.Io.KnownBytes.{Keeps};
+    ghost use Rattle.std.specs.Prelude.{◌≡◌, is_some};
+
     /// No write failed yet.
-    pub fn new(writer: W) -> WatchedWriter<W> {
+    pub fn new(writer: W) -> WatchedWriter<W>
+        ensures { result.writer ≡ writer }
+    {
         WatchedWriter {
             writer,
             failure: None,
         }
     }
 
-    /// Why the last write failed, or that it took no bytes, if it did.
-    pub fn failure(&self) -> Option<io::Error> {
-        self.failure
+    /// Hands on what a buffer still holds, after writes that did not fail; says whether that failed, which is remembered.
+    pub fn hand_on(&mut self) -> bool
+        ensures kept { Keeps (W.contents self.old.writer) (W.contents self.new.writer) }
+        ensures failed { result ≡ is_some self.new.failure }
+    {
+        self.failure = self.writer.flush().err();
+        self.failure.is_some()
     }
 }
 

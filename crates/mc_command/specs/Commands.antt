@@ -1,7 +1,9 @@
 -- What the words of each command ask for, and what answers it.
 use Rattle.std.specs.Io.KnownBytes.{Keeps}
-use Rattle.std.specs.Prelude.{Bool, Err, List, Ok, Option, Some, codes, false, ℕ, ⊤, ◌≡◌, ◌≤◌, ◌⊎◌}
-use Rattle.clap.specs.{Words.{first_value}, declared.parser.matches.Found.{Found}}
+use Rattle.std.specs.Prelude.{Bool, Err, List, Ok, Option, Result, Some, codes, false, if◌then◌else◌, option_map, true, ℕ, ⊤, ◌&&◌, ◌≡◌, ◌≤◌, ◌⊎◌}
+use Rattle.clap.specs.{Matches.{has_subcommand, subcommand_name_of}, Values.{kind_of}, Words.{first_value, rows_of, subcommand_rows_of}}
+use Rattle.clap.specs.{declared.error.Error.{Error}, declared.error.kind.ErrorKind.{ErrorKind}, declared.parser.matches.ArgMatches.{ArgMatches}, declared.parser.matches.Found.{Found}}
+use Rattle.clap.specs.declared.error.kind.ErrorKind.TheVariants as clap
 use Rattle.mc_actions.specs.Images.{AnswersCreate, AnswersInfile, GivesCreation, GivesInfile, LacksCreation}
 use Rattle.mc_actions.specs.Lives.{AnswersLife, GivesLife, LacksLife}
 use Rattle.mc_actions.specs.Layouts.{AnswersLayout, AnswersType, LacksTimedLayout}
@@ -18,7 +20,7 @@ use Rattle.mc_command.specs.declared.request.Request.TheVariants as requests
 use Rattle.mc_explore.specs.Rows.{subject}
 use Rattle.mc_explore.specs.Rows as schedules
 use Rattle.mc_imgtool.specs.Lines.{dumped, verified}
-use Rattle.mc_options.specs.{Arguments.{GivesLayout, GivesSpan, GivesView, IsFlag, IsReady, MayGiveTimes}, Requests.{End, IsRun}, Sources.{GivesStart, LacksStart}, declared.refusal.Refusal.{Refusal}}
+use Rattle.mc_options.specs.{Arguments.{GivesLayout, GivesSpan, GivesView, IsFlag, IsReady, MayGiveTimes}, Requests.{End, IsRun}, Sources.{GivesStart, LacksStart, RefusesSettings}, Statuses.{status_of}, declared.refusal.Refusal.{Refusal}}
 use Rattle.mc_options.specs.Refusals.{ConfirmsAlone, IsNoCampaign, IsNoSchedule, LacksSpan, LacksView}
 use Rattle.mc_options.specs.declared.refusal.Refusal.TheVariants as refusals
 use Rattle.mc_options.specs.declared.options.ExploreOptions.{ExploreOptions}
@@ -172,18 +174,57 @@ Runs name holds found input before after end =
     ⊎ ((name ≡ codes "life" → ⊥) × IsRun (Asks name holds found) (LacksNamed name holds found) (λ request. Answers request holds input) before after end))
 
 -- All of a text was out before a command ended so: it was done; or a verdict on it is refused; or an event of a life, and those before it are told.
-abbrev pub FollowsText : End → Type 0
-FollowsText (Ok done) = Unit {0}
-FollowsText (Err refusals.NotAllBoot) = Unit {0}
-FollowsText (Err refusals.NotAllRight) = Unit {0}
-FollowsText (Err refusals.NotWhole) = Unit {0}
-FollowsText (Err (refusals.Life error)) = Unit {0}
-FollowsText (Err _) = ⊥
+abbrev pub follows_text : End → Bool
+follows_text (Ok done) = true
+follows_text (Err refusals.NotAllBoot) = true
+follows_text (Err refusals.NotAllRight) = true
+follows_text (Err refusals.NotWhole) = true
+follows_text (Err (refusals.Life error)) = true
+follows_text (Err _) = false
 
--- And a buffer is asked to hand on what it still holds. Where that fails, it is told in place of all that follows the text.
-pub record RunsWhole (name : List ℕ) (holds : Holds) (found : Found) (input before after : Option (List ℕ)) (end : End) : Type 0 where
+-- Where what a buffer still holds could not be handed on, that is told in place of whatever follows a text, and of nothing else.
+abbrev pub end_after : End → Bool → End
+end_after done failed = if follows_text done && failed then Err refusals.Write else done
+
+pub record RunsWhole (name : List ℕ) (holds : Holds) (found : Found) (input before after : Option (List ℕ)) (failed : Bool) (end : End) : Type 0 where
   pub done : End
   pub out : Option (List ℕ)
   pub runs : Runs name holds found input before out done
   pub kept : Keeps out after
-  pub ends : (end ≡ done) ⊎ (FollowsText done × (end ≡ Err refusals.Write))
+  pub end_is : end ≡ end_after done failed
+
+-- The status of a command that ended so.
+abbrev pub status_at : End → ℕ
+status_at (Ok done) = 0
+status_at (Err e) = status_of e
+
+-- The command that clap found in a line, by its name and by what its words gave, is run, and that is the status.
+abbrev pub IsFound : ArgMatches → List ℕ → Found → Type 0
+IsFound m name found = (subcommand_name_of m ≡ Some name) × (option_map (λ p. p.1) (subcommand_rows_of m) ≡ Some (rows_of found))
+
+pub record RunsFound (m : ArgMatches) (holds : Holds) (input before after : Option (List ℕ)) (failed : Bool) (status : ℕ) : Type 0 where
+  pub name : List ℕ
+  pub found : Found
+  pub is_found : IsFound m name found
+  pub end : End
+  pub runs : RunsWhole name holds found input before after failed end
+  pub status_is : status ≡ status_at end
+
+-- Of a line in which clap found none its refusal is the answer, or the help that is asked for, which may not be written.
+abbrev pub AnswersClap : ErrorKind → Option (List ℕ) → Option (List ℕ) → ℕ → Type 0
+AnswersClap clap.DisplayHelp before after status = (status ≡ 0) ⊎ (status ≡ 3)
+AnswersClap clap.DisplayVersion before after status = (status ≡ 0) ⊎ (status ≡ 3)
+AnswersClap clap.OutOfMemory before after status = (status ≡ 3) × (after ≡ before)
+AnswersClap _ before after status = (status ≡ 2) × (after ≡ before)
+
+-- What clap made of a line is answered.
+abbrev pub AnswersParsed : Result ArgMatches Error → Holds → Option (List ℕ) → Option (List ℕ) → Option (List ℕ) → Bool → ℕ → Type 0
+AnswersParsed (Ok m) holds input before after failed status =
+    RunsFound m holds input before after failed status ⊎ ((has_subcommand m ≡ false) × (status ≡ 2) × (after ≡ before))
+AnswersParsed (Err e) holds input before after failed status = AnswersClap (kind_of e) before after status
+
+-- A line is run: so; or the file of a layout is refused, before clap is asked.
+abbrev pub RunsLine : Holds → Option (List ℕ) → Option (List ℕ) → Option (List ℕ) → Bool → ℕ → Type 0
+RunsLine holds input before after failed status =
+    ((parsed : Result ArgMatches Error) × AnswersParsed parsed holds input before after failed status)
+    ⊎ ((e : Refusal) × RefusesSettings holds e × (status ≡ status_of e) × (after ≡ before))

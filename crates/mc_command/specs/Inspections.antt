@@ -6,10 +6,11 @@ use Rattle.mc_boot.specs.declared.kind.Kind.{Kind}
 use Rattle.mc_cli.specs.Files.{Holds}
 use Rattle.mc_boot.specs.declared.kind.Kind.TheVariants as kinds
 use Rattle.mc_explore.specs.Rows.{subject}
-use Rattle.mc_flash.specs.{Flash.{Content}, Geometry.{Geometry}, declared.flash.FlashError.{FlashError}}
-use Rattle.mc_options.specs.{Arguments.{GivesLayout, GivesRules, kind_text}, Refusals.{GivesOne, HasText, LacksLayout, LacksOption, LacksRules}, Requests.{End, IsAnswered, IsDone, IsUnwritten}, Sources.{Reads, RefusesFile}, declared.refusal.Refusal.{Refusal}}
+use Rattle.mc_flash.specs.{Flash.{Content}, Geometry.{Geometry}}
+use Rattle.mc_flash.specs.declared.flash.FlashError.TheVariants as flashes
+use Rattle.mc_options.specs.{Arguments.{GivesLayout, GivesRules, kind_text}, Refusals.{GivesOne, HasText, LacksLayout, LacksOption, LacksRules}, Requests.{End, IsAnswered, IsDone, IsUnwritten}, Sources.{FailsFlash, IsFlashed, Reads, RefusesFile}, declared.refusal.Refusal.{Refusal}}
 use Rattle.mc_options.specs.declared.refusal.Refusal.TheVariants as refusals
-use Rattle.mc_start.specs.{Start.{Gives, Started, Starts, begun, of_flash}, declared.start.StartError.{StartError}}
+use Rattle.mc_start.specs.{Start.{Started, Starts, begun}, declared.start.StartError.{StartError}}
 use Rattle.mc_trace.specs.Inspection.{inspection_text}
 use Rattle.mc_trace.specs.declared.error.TraceError.TheVariants as errors
 use Rattle.mc_trailer.specs.declared.tables.Rules.{Rules}
@@ -40,13 +41,10 @@ pub record IsFound (images : Images) (flash : Started) (found : Found) : Type 0 
   pub nearest : IsNearest (begun start) (AtMost 16) flash.content found.located.schedule
 
 -- The words give the layout of a dump, its file, whose bytes it has, and the rules of the boots from there.
-abbrev pub IsOfDump : Holds → List ℕ → Started → Type 0
-IsOfDump holds path s = (bytes : List ℕ) × Reads (holds path) (2 ^ 25) bytes × (of_flash s.geometry bytes ≡ Ok s.content)
-
 pub record GivesDump (holds : Holds) (words : Words) (s : Started) : Type 0 where
   pub layout : GivesLayout words s.geometry
   pub rules : GivesRules words s.rules
-  pub bytes : HasText words (codes "flash") (λ path. IsOfDump holds path s)
+  pub bytes : HasText words (codes "flash") (λ path. IsFlashed holds s.geometry path s.content)
 
 -- And two known images by their files, or none.
 abbrev pub GivesKnown : Holds → Words → Option Images → Type 0
@@ -83,13 +81,8 @@ LacksKnown holds words e =
     ⊎ (IsUnread holds words (codes "known-a") (2 ^ 24) e ⊎ IsUnread holds words (codes "known-b") (2 ^ 24) e)
 
 -- The file of the dump is not read, or its bytes make no start.
-abbrev pub MakesNoStart : Holds → Geometry → List ℕ → Refusal → Type 0
-MakesNoStart holds g path e =
-    (bytes : List ℕ) × (error : StartError) × (e ≡ refusals.Start error) × Reads (holds path) (2 ^ 25) bytes × Gives g (Err error) (of_flash g bytes)
-
 abbrev pub FailsDump : Holds → Words → Refusal → Type 0
-FailsDump holds words e =
-    (g : Geometry) × GivesLayout words g × HasText words (codes "flash") (λ path. RefusesFile (holds path) (2 ^ 25) e ⊎ MakesNoStart holds g path e)
+FailsDump holds words e = (g : Geometry) × GivesLayout words g × HasText words (codes "flash") (λ path. FailsFlash holds g path e)
 
 abbrev pub LacksInspect : Holds → Words → Refusal → Type 0
 LacksInspect holds words e = (LacksDump words e ⊎ LacksEnds words e) ⊎ ((NeverJudged words e ⊎ LacksKnown holds words e) ⊎ FailsDump holds words e)
@@ -104,9 +97,14 @@ AreNamed i None = i.images ≡ None
 AreNamed i (Some content) =
     (images : Images) × (i.images ≡ Some images) × (s : Started) × IsSwapOf images i.wanted.start.geometry i.wanted.start.rules kinds.None s × (content ≡ s.content)
 
--- The known images are refused, or an allocation failed.
-abbrev pub RefusesNamed : Refusal → Type 0
-RefusesNamed e = ((error : StartError) × (e ≡ refusals.Start error)) ⊎ ((error : FlashError) × (e ≡ refusals.Flash error))
+-- The known images are refused for a swap of that kind, or an allocation failed.
+abbrev pub RefusesSwap : Images → Geometry → Kind → Refusal → Type 0
+RefusesSwap images g kind e =
+    (error : StartError) × (e ≡ refusals.Start error)
+    × Starts g kind (first_of kind images.a.items images.b.items) (second_of kind images.a.items images.b.items) (Err error)
+
+abbrev pub RefusesNamed : Inspected → Refusal → Type 0
+RefusesNamed i e = (images : Images) × (i.images ≡ Some images) × RefusesSwap images i.wanted.start.geometry kinds.None e
 
 -- What a dump is, with the census from there.
 pub record Inspection (i : Inspected) : Type 0 where
@@ -117,7 +115,7 @@ pub record Inspection (i : Inspected) : Type 0 where
 abbrev pub AnswersInspect : Inspected → Option (List ℕ) → Option (List ℕ) → End → Type 0
 AnswersInspect i =
     IsAnswered (λ (a : Inspection i). inspection_text (begun i.wanted.start) a.named ++ counts_text subject a.census.counts)
-    (λ a. EndsCensus subject i.wanted a.census) (λ e. RefusesCensus i.wanted e ⊎ (RefusesNamed e ⊎ (e ≡ refusals.Trace errors.Memory)))
+    (λ a. EndsCensus subject i.wanted a.census) (λ e. RefusesCensus i.wanted e ⊎ (RefusesNamed i e ⊎ (e ≡ refusals.Trace errors.Memory)))
     (λ e. IsUnwritten e ⊎ (e ≡ refusals.Trace errors.Write))
 
 -- Where a flash occurs in the three swaps of two images: the nearest of them.
@@ -146,5 +144,12 @@ abbrev pub swap_text : {l : LocateAsked} → LocatedIn l → List ℕ
 swap_text a =
     (codes "swap " ++ (kind_text a.found.kind ++ codes "\n")) ++ (located_text a.found.located ++ (codes "all " ++ (yes_or_no (are_whole a) ++ codes "\n")))
 
+-- There is none: the images are refused for one of these swaps, or an allocation failed.
+abbrev pub FailsFind : LocateAsked → Kind → Refusal → Type 0
+FailsFind l kind e = RefusesSwap l.images l.flash.geometry kind e ⊎ (e ≡ refusals.Flash flashes.Memory)
+
+abbrev pub RefusesLocate : LocateAsked → Refusal → Type 0
+RefusesLocate l e = FailsFind l kinds.Test e ⊎ (FailsFind l kinds.Perm e ⊎ FailsFind l kinds.Revert e)
+
 abbrev pub AnswersLocate : LocateAsked → Option (List ℕ) → Option (List ℕ) → End → Type 0
-AnswersLocate l = IsAnswered (λ (a : LocatedIn l). swap_text a) IsDone (λ e. RefusesNamed e ⊎ (e ≡ refusals.Memory)) IsUnwritten
+AnswersLocate l = IsAnswered (λ (a : LocatedIn l). swap_text a) IsDone (λ e. RefusesLocate l e ⊎ (e ≡ refusals.Memory)) IsUnwritten

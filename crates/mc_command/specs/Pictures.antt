@@ -1,5 +1,5 @@
 -- How many operations a picture shows, and how it is answered.
-use Rattle.std.specs.Prelude.{List, Option, [], min, ℕ, ◌+◌, ◌-◌, ◌<◌, ◌∷◌, ◌≡◌, ◌⊎◌}
+use Rattle.std.specs.Prelude.{List, Option, [], min, ℕ, ◌+◌, ◌-◌, ◌<◌, ◌∷◌, ◌≡◌, ◌≤◌, ◌⊎◌}
 use Rattle.clap.specs.declared.parser.matches.Found.{Found}
 use Rattle.mc_actions.specs.{Schedules.{LacksScheduled}, declared.schedule.Scheduled.{Scheduled}}
 use Rattle.mc_boot.specs.Outcome.{Report}
@@ -25,17 +25,22 @@ rows_in span (cut ∷ cuts) last = within span (cut + 1) + rows_in span cuts las
 abbrev pub LacksPicture : Holds → Found → Refusal → Type 0
 LacksPicture holds found e = (LacksEnds found e ⊎ LacksSpan found e) ⊎ LacksScheduled holds found e
 
--- The picture of a schedule, for what is expected of its slots.
-pub record Drawn (s : Scheduled) (ends : Ends) (span : Span) : Type 0 where
-  pub text : List ℕ
-  pub is : IsPicture (expected_ends ends s.start.named) span (begun s.start) s.schedule text
-
--- There would be more operations in it than a browser can show.
-pub record IsLarge (s : Scheduled) (span : Span) : Type 0 where
+-- That holds of how many operations are seen of a schedule's boots.
+pub record HasRows (s : Scheduled) (span : Span) (Many : ℕ → Type 0) : Type 0 where
   pub outcome : Report
   pub left : Content
   pub replayed : IsReplayed (begun s.start) s.schedule outcome left
-  pub many : 20000 < rows_in span s.schedule outcome.ops
+  pub many : Many (rows_in span s.schedule outcome.ops)
+
+-- The picture of a schedule, for what is expected of its slots, of no more operations than a browser can show.
+pub record Drawn (s : Scheduled) (ends : Ends) (span : Span) : Type 0 where
+  pub text : List ℕ
+  pub is : IsPicture (expected_ends ends s.start.named) span (begun s.start) s.schedule text
+  pub few : HasRows s span (λ n. n ≤ 20000)
+
+-- There would be more.
+abbrev pub IsLarge : Scheduled → Span → Type 0
+IsLarge s span = HasRows s span (λ n. 20000 < n)
 
 -- An allocation fails while it is drawn, or a write.
 abbrev pub IsUndrawn : Refusal → Type 0

@@ -2,9 +2,9 @@
 ghost use Rattle.std.specs.Prelude.{◌≡◌, ◌<◌, ◌≤◌, ◌&&◌, ◌^◌, ◌⊎◌, Some, codes, length, IfErr, IfOk, IfSome, None, option_map};
 ghost use Rattle.clap.specs.Matches.{found_of};
 ghost use Rattle.clap.specs.Words.{first_value};
-ghost use Rattle.mc_options.specs.Sources.{RefusesFile};
+ghost use Rattle.mc_options.specs.Sources.{FailsFlash, IsFlashed};
 ghost use Rattle.mc_options.specs.Arguments.{GivesLayout, GivesRules};
-ghost use Rattle.mc_command.specs.Inspections.{AnswersInspect, AnswersLocate, AreNamed, GivesInspect, GivesKnown, GivesLocate, IsFound, IsNearestOf, IsOfDump, IsSwapOf, LacksDump, LacksInspect, LacksKnown, LacksLocate, MakesNoStart, RefusesNamed, first_of, second_of};
+ghost use Rattle.mc_command.specs.Inspections.{AnswersInspect, AnswersLocate, AreNamed, FailsFind, GivesInspect, GivesKnown, GivesLocate, IsFound, IsNearestOf, IsSwapOf, LacksDump, LacksInspect, LacksKnown, LacksLocate, RefusesLocate, RefusesNamed, RefusesSwap, first_of, second_of};
 
 use clap::ArgMatches;
 use mc_actions::trailers::yes_or_no;
@@ -83,7 +83,7 @@ impl Images {
     ) -> Result<Start, Refusal>
         ensures layout { IfOk result (λ start. start.geometry ≡ layout.now) }
         ensures swap { IfOk result (IsSwapOf self.now layout.now rules kind) }
-        ensures refused { IfErr result RefusesNamed }
+        ensures refused { IfErr result (RefusesSwap self.now layout.now kind) }
     {
         let (first, second) = in_order(kind, self.a.as_slice(), self.b.as_slice());
         match Start::from_images(alloc, layout, kind, first, second) {
@@ -131,10 +131,10 @@ impl<'a> Dump<'a> {
     fn read<F: KnownFiles>(&self, files: &F, alloc: Global) -> Result<Start, Refusal>
         ensures layout { IfOk result (λ start. start.geometry ≡ self.now.layout) }
         ensures rules { IfOk result (λ start. start.rules ≡ self.now.rules) }
-        ensures bytes { IfOk result (IsOfDump (F.holds files.now) self.now.path.now) }
-        ensures refused { let d = self.now in IfErr result (λ e. RefusesFile
-            (F.holds files.now d.path.now) (2 ^ 25) e
-            ⊎ MakesNoStart (F.holds files.now) d.layout d.path.now e) }
+        ensures bytes { IfOk result (λ start. IsFlashed (F.holds files.now) self.now.layout
+            self.now.path.now start.content) }
+        ensures refused { IfErr result (FailsFlash (F.holds files.now) self.now.layout
+            self.now.path.now) }
     {
         let bytes = read_file(files, alloc, self.path, GREATEST_FLASH)?;
         let start = Start::from_flash(alloc, &self.layout, bytes.as_slice())?;
@@ -186,7 +186,7 @@ fn named_start(alloc: Global, asked: &Inspected) -> Result<Option<Start>, Refusa
         (option_map (λ start. start.content) named)) }
     ensures layout { IfOk result (λ named. IfSome named
         (λ start. start.geometry ≡ asked.now.wanted.start.geometry)) }
-    ensures refused { IfErr result RefusesNamed }
+    ensures refused { IfErr result (RefusesNamed asked.now) }
 {
     let start = asked.wanted.start();
     match &asked.images {
@@ -231,12 +231,15 @@ pub struct Found {
 /// # Errors
 ///
 /// `Start` with what is refused of the images; `Flash` for want of memory.
-fn find_in(alloc: Global, flash: &Start, images: &Images, kind: Kind) -> Result<Found, Refusal>
-    ensures found { IfOk result (IsFound images.now flash.now) }
+fn find_in(alloc: Global, asked: &LocateAsked, kind: Kind) -> Result<Found, Refusal>
+    ensures found { IfOk result (IsFound asked.now.images asked.now.flash) }
     ensures kind { IfOk result (λ found. found.kind ≡ kind) }
-    ensures refused { IfErr result RefusesNamed }
+    ensures refused { IfErr result (FailsFind asked.now kind) }
 {
-    let start = images.start_of(alloc, flash.layout(), flash.rules(), kind)?;
+    let flash = &asked.flash;
+    let start = asked
+        .images
+        .start_of(alloc, flash.layout(), flash.rules(), kind)?;
     let (primary, secondary) = (flash.primary(), flash.secondary());
     match locate::<JournalFlash>(alloc, &start, primary, secondary, MOST_CUTS) {
         Ok(located) => Ok(Found { kind, located }),
@@ -304,12 +307,11 @@ fn are_whole(test: &Found, perm: &Found, revert: &Found) -> bool
 /// Those of `find_in`.
 fn nearest(alloc: Global, asked: &LocateAsked) -> Result<(Found, bool), Refusal>
     ensures nearest { IfOk result (IsNearestOf asked.now) }
-    ensures refused { IfErr result RefusesNamed }
+    ensures refused { IfErr result (RefusesLocate asked.now) }
 {
-    let (flash, images) = (&asked.flash, &asked.images);
-    let test = find_in(alloc, flash, images, Kind::Test)?;
-    let perm = find_in(alloc, flash, images, Kind::Perm)?;
-    let revert = find_in(alloc, flash, images, Kind::Revert)?;
+    let test = find_in(alloc, asked, Kind::Test)?;
+    let perm = find_in(alloc, asked, Kind::Perm)?;
+    let revert = find_in(alloc, asked, Kind::Revert)?;
     let whole = are_whole(&test, &perm, &revert);
     Ok((nearer(nearer(test, perm), revert), whole))
 }

@@ -1,11 +1,13 @@
 //! The commands of `mcsim`, over the image tool, the flashes and the boots, and the exit status of a command line.
 #![tactic(auto)]
 
-ghost use Rattle.std.specs.Prelude.{◌≡◌, ◌≤◌, true};
+ghost use Rattle.std.specs.Prelude.{◌≡◌, ◌≤◌, is_some};
 ghost use Rattle.clap.specs.Matches.{found_of};
+ghost use Rattle.clap.specs.Values.{kind_of};
 ghost use Rattle.mc_actions.specs.Lives.{AnswersLife, GivesLife, LacksLife};
-ghost use Rattle.mc_command.specs.Commands.{Answers, Asks, FollowsText, LacksNamed, Runs, RunsWhole};
+ghost use Rattle.mc_command.specs.Commands.{Answers, AnswersClap, AnswersParsed, Asks, LacksNamed, Runs, RunsLine, RunsWhole, follows_text};
 ghost use Rattle.mc_options.specs.Requests.{IsRun};
+ghost use Rattle.mc_options.specs.Statuses.{status_of};
 
 mod inspect;
 mod picture;
@@ -16,13 +18,14 @@ use clap::error::ErrorKind;
 use clap::{ArgMatches, Error};
 pub use inspect::{Inspected, LocateAsked};
 use mc_actions::{explain, life};
-pub use mc_cli::KnownFiles;
-use mc_cli::{WatchedFiles, WatchedWriter, left_out, parse};
+pub use mc_cli::{KnownFiles, WatchedWriter};
+use mc_cli::{WatchedFiles, left_out, parse};
 use mc_options::{
     Refusal, asks_file, flush, print_cost, print_note, report_file, report_reason, with_files,
 };
 pub use request::{Command, Request};
 use std::alloc::Global;
+use std::io;
 use std::io::{Read, Write};
 pub use tears::TearsAsked;
 
@@ -31,15 +34,17 @@ pub use tears::TearsAsked;
 ///
 /// What a buffer holds of `out` is handed on before it returns. A refusal is one line on `err`, or clap's own text; with `--verbose` a second line has its reason, where that is known. A failed
 /// write to `err` changes no status.
-pub fn run<F: KnownFiles, R: Read, O: Write, E: Write>(
+pub fn run<F: KnownFiles, R: Read, O: Write + Drop, E: Write>(
     files: &F,
     alloc: Global,
     words: &[String],
     input: &mut R,
-    out: &mut O,
+    out: &mut WatchedWriter<O>,
     err: &mut E,
 ) -> u8
-    ensures { result ≤ 3 }
+    ensures runs { RunsLine (F.holds files.now) (R.remaining input.old) (O.contents out.old.writer)
+        (O.contents out.new.writer) (is_some out.new.failure) result }
+    ensures range { result ≤ 3 }
 {
     let watched = WatchedFiles::new(files, alloc);
     if !asks_file(words) {
@@ -58,35 +63,69 @@ pub fn run<F: KnownFiles, R: Read, O: Write, E: Write>(
 }
 
 /// Runs one command line without `--layout`.
-fn run_words<F: KnownFiles, R: Read, O: Write, E: Write>(
+fn run_words<F: KnownFiles, R: Read, O: Write + Drop, E: Write>(
     files: WatchedFiles<'_, F>,
     alloc: Global,
     words: &[String],
     input: &mut R,
-    out: &mut O,
+    out: &mut WatchedWriter<O>,
     err: &mut E,
 ) -> u8
-    ensures { result ≤ 3 }
+    ensures runs { RunsLine (F.holds files.entry.files.now) (R.remaining input.old)
+        (O.contents out.old.writer) (O.contents out.new.writer) (is_some out.new.failure) result }
+    ensures range { result ≤ 3 }
 {
-    let matches = match parse(alloc, words) {
-        Ok(matches) => matches,
-        Err(error) => return answer_of_clap(words, &error, out, err),
-    };
+    match parse(alloc, words) {
+        Ok(matches) => run_matches(files, alloc, &matches, input, out, err),
+        Err(error) => answer_of_clap(words, &error, out, err),
+    }
+}
+
+/// Runs the command that clap found in a line.
+fn run_matches<F: KnownFiles, R: Read, O: Write + Drop, E: Write>(
+    files: WatchedFiles<'_, F>,
+    alloc: Global,
+    matches: &ArgMatches<'_>,
+    input: &mut R,
+    out: &mut WatchedWriter<O>,
+    err: &mut E,
+) -> u8
+    ensures runs { AnswersParsed (Ok matches.now) (F.holds files.entry.files.now)
+        (R.remaining input.old) (O.contents out.old.writer) (O.contents out.new.writer)
+        (is_some out.new.failure) result }
+    ensures range { result ≤ 3 }
+{
     let Some((name, arguments)) = matches.subcommand() else {
         return Refusal::Argument.report(err);
     };
     // What is said beside the output, and cannot be written, changes nothing.
     let _ = print_cost(name, arguments, err);
-    let mut watched = WatchedWriter::new(out);
-    let Err(refusal) = run_whole(&files, alloc, name, arguments, input, &mut watched, err) else {
-        let _ = print_note(&files, name, arguments, err);
-        return 0;
-    };
+    match run_whole(&files, alloc, name, arguments, input, out, err) {
+        Ok(()) => {
+            let _ = print_note(&files, name, arguments, err);
+            0
+        }
+        Err(refusal) => report(files, alloc, arguments, &refusal, out.failure, err),
+    }
+}
+
+/// Prints the line of a refusal, and with `--verbose` its reason, or why the last write failed; and returns its status.
+fn report<F: KnownFiles, E: Write>(
+    files: WatchedFiles<'_, F>,
+    alloc: Global,
+    arguments: &ArgMatches<'_>,
+    refusal: &Refusal,
+    failure: Option<io::Error>,
+    err: &mut E,
+) -> u8
+    ensures exact { result ≡ status_of refusal.now }
+    ensures range { result ≤ 3 }
+{
     let status = refusal.report(err);
     if arguments.get_flag("verbose") {
-        let _ = match watched.failure() {
+        let _ = match failure {
             Some(error) => writeln!(err, "mcsim: standard output: {error}"),
-            None => report_reason(files, alloc, arguments, &refusal, err),
+            None => report_reason(files, alloc, arguments, refusal, err),
         };
     }
     status
@@ -94,13 +133,15 @@ fn run_words<F: KnownFiles, R: Read, O: Write, E: Write>(
 
 /// Prints clap's help, or its refusal of a command line, and returns the status. Where `create` is given an option of imgtool that is left
 /// out, what does that is printed instead.
-fn answer_of_clap<O: Write, E: Write>(
+fn answer_of_clap<O: Write + Drop, E: Write>(
     words: &[String],
     error: &Error,
-    out: &mut O,
+    out: &mut WatchedWriter<O>,
     err: &mut E,
 ) -> u8
-    ensures { result ≤ 3 }
+    ensures answers { AnswersClap (kind_of error.now) (O.contents out.old.writer)
+        (O.contents out.new.writer) result }
+    ensures range { result ≤ 3 }
 {
     if error.kind() == ErrorKind::OutOfMemory {
         return Refusal::Memory.report(err);
@@ -132,7 +173,7 @@ fn left_out_of(words: &[String]) -> Option<(&'static str, &'static str)> {
 
 /// Whether all of a command's text was out before it ended so: it was done, or a verdict on the text is refused, or an event of a life.
 fn follows_text(done: &Result<(), Refusal>) -> bool
-    ensures { result ≡ true → FollowsText done.now }
+    ensures { result ≡ follows_text done.now }
 {
     matches!(
         done,
@@ -146,21 +187,26 @@ fn follows_text(done: &Result<(), Refusal>) -> bool
 /// # Errors
 ///
 /// Those of the command; `Write` in place of what follows its text, where the rest of that cannot be handed on.
-pub fn run_whole<F: KnownFiles, R: Read, O: Write, E: Write>(
+pub fn run_whole<F: KnownFiles, R: Read, O: Write + Drop, E: Write>(
     files: &WatchedFiles<'_, F>,
     alloc: Global,
     name: &str,
     arguments: &ArgMatches<'_>,
     input: &mut R,
-    out: &mut O,
+    out: &mut WatchedWriter<O>,
     err: &mut E,
 ) -> Result<(), Refusal>
     ensures { RunsWhole name.now (F.holds files.now.files.now) (found_of arguments.now)
-        (R.remaining input.old)
-        (O.contents out.old) (O.contents out.new) result }
+        (R.remaining input.old) (O.contents out.old.writer) (O.contents out.new.writer)
+        (is_some out.new.failure) result }
 {
     let done = run_command(files, alloc, name, arguments, input, out, err);
-    if flush(out).is_err() && follows_text(&done) {
+    if !follows_text(&done) {
+        // Why a write failed is remembered, and what was out before may still be held.
+        let _ = flush(out);
+        return done;
+    }
+    if out.hand_on() {
         return Err(Refusal::Write);
     }
     done

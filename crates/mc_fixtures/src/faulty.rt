@@ -1,7 +1,7 @@
 //! Files and streams that fail once.
 use crate::failing::{Failure, Fault};
 use crate::named;
-use mc_cli::KnownFiles;
+use mc_cli::{KnownFiles, have_one_number};
 use std::alloc::Allocator;
 use std::cell::RefCell;
 use std::fs::{Metadata, OpenFile, OpenOptions};
@@ -160,5 +160,9 @@ impl<'a> KnownFiles for FaultyFiles<'a> {
 
     fn open_to_read(&self, path: &str) -> io::Result<FaultyFile<'a>> {
         fs::open(self, path)
+    }
+
+    fn is_same_file(&self, first: &str, second: &str) -> bool {
+        first == second || have_one_number(self, first, second)
     }
 }

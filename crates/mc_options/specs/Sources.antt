@@ -2,7 +2,7 @@
 use Rattle.std.specs.Prelude.{Err, IfSome, List, None, Ok, Option, length, ◌^◌, ◌≡◌, ◌≤◌, ◌⊎◌, ℕ}
 use Rattle.clap.specs.declared.parser.matches.Found.{Found}
 use Rattle.mc_cli.specs.Files.{Holds}
-use Rattle.mc_flash.specs.Geometry.{Geometry}
+use Rattle.mc_flash.specs.{Flash.{Content}, Geometry.{Geometry}}
 use Rattle.mc_imgtool.specs.Engines.{RefusesReading}
 use Rattle.mc_options.specs.{Arguments.{GivesFlash}, Refusals.{LacksFlash}}
 use Rattle.mc_options.specs.{declared.options.FlashOptions.{FlashOptions}, declared.options.Source.{Source}, declared.refusal.Refusal.{Refusal}}
@@ -29,15 +29,22 @@ OfSource holds g (sources.Images kind a b) s =
     × Starts g kind first second (Ok s)
 
 -- Why there is none: a file is not read, or the bytes that are read make no start.
-abbrev pub FailsSource : Holds → Geometry → Source → Refusal → Type 0
-FailsSource holds g (sources.Flash path) e =
-    RefusesFile (holds path.now) (2 ^ 25) e
-    ⊎ ((bytes : List ℕ) × (error : StartError) × (e ≡ refusals.Start error) × Reads (holds path.now) (2 ^ 25) bytes
+abbrev pub FailsFlash : Holds → Geometry → List ℕ → Refusal → Type 0
+FailsFlash holds g path e =
+    RefusesFile (holds path) (2 ^ 25) e
+    ⊎ ((bytes : List ℕ) × (error : StartError) × (e ≡ refusals.Start error) × Reads (holds path) (2 ^ 25) bytes
     × Gives g (Err error) (of_flash g bytes))
+
+abbrev pub FailsSource : Holds → Geometry → Source → Refusal → Type 0
+FailsSource holds g (sources.Flash path) e = FailsFlash holds g path.now e
 FailsSource holds g (sources.Images kind a b) e =
     (RefusesFile (holds a.now) (2 ^ 24) e ⊎ RefusesFile (holds b.now) (2 ^ 24) e)
     ⊎ ((first : List ℕ) × (second : List ℕ) × (error : StartError) × (e ≡ refusals.Start error)
     × Reads (holds a.now) (2 ^ 24) first × Reads (holds b.now) (2 ^ 24) second × Starts g kind first second (Err error))
+
+-- A content is that of the bytes that are read of a flash's file.
+abbrev pub IsFlashed : Holds → Geometry → List ℕ → Content → Type 0
+IsFlashed holds g path content = (bytes : List ℕ) × Reads (holds path) (2 ^ 25) bytes × (of_flash g bytes ≡ Ok content)
 
 -- Such a start under the rules that are given.
 abbrev pub IsStartOf : Holds → FlashOptions → Started → Type 0
@@ -59,3 +66,10 @@ pub record FailsStart (holds : Holds) (found : Found) (e : Refusal) : Type 0 whe
 -- The arguments give no source, or it has no start.
 abbrev pub LacksStart : Holds → Found → Refusal → Type 0
 LacksStart holds found e = LacksFlash found e ⊎ FailsStart holds found e
+
+-- A line of a layout's file is none of its options, or an allocation failed; or such a file is not read.
+abbrev pub IsNoSetting : Refusal → Type 0
+IsNoSetting e = (e ≡ refusals.LayoutFile) ⊎ (e ≡ refusals.Memory)
+
+abbrev pub RefusesSettings : Holds → Refusal → Type 0
+RefusesSettings holds e = IsNoSetting e ⊎ ((path : List ℕ) × RefusesFile (holds path) 65536 e)

@@ -1,4 +1,7 @@
 //! The numbers of a layout from a file: the same options, one a line.
+ghost use Rattle.std.specs.Prelude.{◌≡◌, IfErr};
+ghost use Rattle.mc_options.specs.Sources.{IsNoSetting, RefusesSettings};
+
 use crate::numbers::NumberOption;
 use crate::refusal::Refusal;
 use crate::source::read_file;
@@ -26,7 +29,9 @@ static OPTIONS: [NumberOption; 6] = [
 /// # Errors
 ///
 /// `LayoutFile` where it says anything else.
-fn setting_of(line: &str) -> Result<Option<(NumberOption, &str)>, Refusal> {
+fn setting_of(line: &str) -> Result<Option<(NumberOption, &str)>, Refusal>
+    ensures { IfErr result IsNoSetting }
+{
     let (said, _comment) = line.split_once('#').unwrap_or((line, ""));
     let said = said.trim();
     if said.is_empty() {
@@ -49,7 +54,9 @@ fn setting_of(line: &str) -> Result<Option<(NumberOption, &str)>, Refusal> {
 /// # Errors
 ///
 /// `LayoutFile` where a line says anything else; `Memory`.
-fn add_settings(alloc: Global, text: &str, words: &mut Vec<String>) -> Result<(), Refusal> {
+fn add_settings(alloc: Global, text: &str, words: &mut Vec<String>) -> Result<(), Refusal>
+    ensures { IfErr result IsNoSetting }
+{
     for line in text.lines() {
         if let Some((option, value)) = setting_of(line)? {
             let word = format!(in alloc; "--{}={value}", option.name());
@@ -71,7 +78,9 @@ fn add_file<F: KnownFiles>(
     alloc: Global,
     path: &str,
     words: &mut Vec<String>,
-) -> Result<(), Refusal> {
+) -> Result<(), Refusal>
+    ensures { IfErr result (RefusesSettings (F.holds files.now)) }
+{
     let bytes = read_file(files, alloc, path, GREATEST_FILE)?;
     let text = String::from_utf8(bytes).map_err(|_| Refusal::LayoutFile)?;
     add_settings(alloc, text.as_str(), words)?;
@@ -122,7 +131,9 @@ pub fn with_files<F: KnownFiles>(
     files: &F,
     alloc: Global,
     words: &[String],
-) -> Result<Vec<String>, Refusal> {
+) -> Result<Vec<String>, Refusal>
+    ensures { IfErr result (RefusesSettings (F.holds files.now)) }
+{
     let mut whole = Vec::new(alloc);
     let mut is_path = false;
     let mut is_over = false;
@@ -154,7 +165,9 @@ pub fn with_files<F: KnownFiles>(
 /// # Errors
 ///
 /// `Memory`.
-fn push_copy(words: &mut Vec<String>, word: &String) -> Result<(), Refusal> {
+fn push_copy(words: &mut Vec<String>, word: &String) -> Result<(), Refusal>
+    ensures { IfErr result (λ e. e ≡ Refusal.Memory) }
+{
     let word = word.clone().map_err(|_| Refusal::Memory)?;
     words.push(word).map_err(|_| Refusal::Memory)
 }

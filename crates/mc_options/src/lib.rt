@@ -27,6 +27,6 @@ pub use options::{
 pub use outfile::Outfile;
 pub use reasons::{report_file, report_reason};
 pub use refusal::Refusal;
-pub use same_file::{check_outputs, is_same_file};
+pub use same_file::check_outputs;
 pub use source::{GREATEST_FLASH, GREATEST_IMAGE, read_file, read_start};
 pub use usual::entry_name;

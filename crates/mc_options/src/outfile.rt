@@ -110,7 +110,7 @@ impl<'f, 'p, F: Files> Outfile<'f, 'p, F> {
         ensures done { OnOk result (written ≡ Ok tt) }
         ensures refused { IfErr result (λ e. (written ≡ Err e) ⊎ (e ≡ Refusal.Write)) }
     {
-        if let Some(error) = self.file.failure() {
+        if let Some(error) = self.file.failure {
             self.files.keep_failed(self.target, error);
         }
         let Some(path) = &self.beside else {

@@ -1,4 +1,4 @@
-//! Whether two paths lead to one file, and files that would be lost.
+//! Files that would be lost.
 ghost use Rattle.std.specs.Prelude.{◌≡◌, false, is_some, true, IfErr, IfOk};
 ghost use Rattle.clap.specs.Matches.{found_of};
 ghost use Rattle.clap.specs.Words.{first_value};
@@ -7,48 +7,37 @@ ghost use Rattle.mc_options.specs.Refusals.{IsLost};
 
 use crate::refusal::Refusal;
 use clap::ArgMatches;
-use std::fs;
-use std::os::unix::fs::MetadataExt;
-use std::rt::Files;
-
-/// Whether two paths lead to one file: they are one text, or the system gives one device and one number for both,
-/// also through links. Where a file is missing, or the system gives nothing, only the texts are compared.
-pub fn is_same_file<F: Files>(files: &F, first: &str, second: &str) -> bool
-    ensures { first.now ≡ second.now → result ≡ true }
-{
-    if first == second {
-        return true;
-    }
-    match (fs::metadata(files, first), fs::metadata(files, second)) {
-        (Ok(first), Ok(second)) => first.dev() == second.dev() && first.ino() == second.ino(),
-        _ => false,
-    }
-}
+use mc_cli::KnownFiles;
 
 /// Whether two options both name a file, and that is one file.
-fn share_file<F: Files>(files: &F, arguments: &ArgMatches<'_>, first: &str, second: &str) -> bool
+fn share_file<F: KnownFiles>(
+    files: &F,
+    arguments: &ArgMatches<'_>,
+    first: &str,
+    second: &str,
+) -> bool
     ensures apart { result ≡ false → AreApart (found_of arguments.now) first.now second.now }
     ensures given { result ≡ true → is_some (first_value (found_of arguments.now) first.now)
         ≡ true }
 {
     match (arguments.get_str(first), arguments.get_str(second)) {
-        (Some(first), Some(second)) => is_same_file(files, first, second),
+        (Some(first), Some(second)) => files.is_same_file(first, second),
         _ => false,
     }
 }
 
 /// Whether the file that an option names is one of those that layouts are read from.
-fn is_layout<F: Files>(files: &F, arguments: &ArgMatches<'_>, option: &str) -> bool
+fn is_layout<F: KnownFiles>(files: &F, arguments: &ArgMatches<'_>, option: &str) -> bool
     ensures { result ≡ true → is_some (first_value (found_of arguments.now) option.now) ≡ true }
 {
     match (arguments.get_str(option), arguments.get_strs("layout")) {
-        (Some(path), Some(layouts)) => layouts.iter().any(|it| is_same_file(files, path, it)),
+        (Some(path), Some(layouts)) => layouts.iter().any(|it| files.is_same_file(path, it)),
         _ => false,
     }
 }
 
 /// Whether the file that an option names to be written is an image, a script or a layout that is read.
-fn is_lost<F: Files>(files: &F, arguments: &ArgMatches<'_>, option: &str) -> bool
+fn is_lost<F: KnownFiles>(files: &F, arguments: &ArgMatches<'_>, option: &str) -> bool
     ensures kept { result ≡ false → IsKept (found_of arguments.now) option.now }
     ensures given { result ≡ true → is_some (first_value (found_of arguments.now) option.now)
         ≡ true }
@@ -66,7 +55,7 @@ fn is_lost<F: Files>(files: &F, arguments: &ArgMatches<'_>, option: &str) -> boo
 /// # Errors
 ///
 /// `SameFile`.
-pub fn check_outputs<F: Files>(files: &F, arguments: &ArgMatches<'_>) -> Result<(), Refusal>
+pub fn check_outputs<F: KnownFiles>(files: &F, arguments: &ArgMatches<'_>) -> Result<(), Refusal>
     // Of the paths by their texts. What they lead to is not known here.
     ensures kept { IfOk result (λ _. KeepsFiles (found_of arguments.now)) }
     ensures refused { IfErr result (IsLost (found_of arguments.now)) }

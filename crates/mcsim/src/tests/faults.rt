@@ -1,6 +1,6 @@
 //! Command lines whose reads and writes fail, each at each call.
 use super::support::{broken_over, contents, in_full, ran_over, same_at, words_of};
-use mc_command::{KnownFiles, run};
+use mc_command::{KnownFiles, WatchedWriter, run};
 use mc_fixtures::{Failure, Fault, FaultyFile, FaultyFiles, PAYLOAD, PLAIN_IMAGE};
 use std::alloc::Global;
 use std::cell::RefCell;
@@ -65,7 +65,8 @@ fn failing(unused: &RefCell<Vec<u8>>) -> FaultyFile<'_> {
 fn status_of<H: Abort + KnownFiles>(rt: &H, alloc: Global, line: &str) -> u8 {
     let words = words_of(rt, alloc, line);
     let unused = RefCell::new(Vec::new(alloc));
-    let (mut out, mut err) = (failing(&unused), failing(&unused));
+    let mut out = WatchedWriter::new(failing(&unused));
+    let mut err = failing(&unused);
     run(
         rt,
         alloc,

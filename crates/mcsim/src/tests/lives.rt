@@ -2,7 +2,7 @@
 use super::support::{
     Table, all_play, contents, in_full, ran_over, same_at, shows, text_of, words_of,
 };
-use mc_command::run;
+use mc_command::{WatchedWriter, run};
 use mc_fixtures::{FAULTS, FailingReader, FailingWriter, Failure, Fault, FaultyFiles};
 use std::alloc::Global;
 use std::cell::RefCell;
@@ -282,12 +282,12 @@ fn shows_lives_or_refuses_them(rt: HostRuntime) {
 }
 
 /// How a life ends that reads its script here and is printed there: its status, and the line of a refusal.
-fn ends<R: Read, W: Write>(
+fn ends<R: Read, W: Write + Drop>(
     rt: &impl Abort,
     alloc: Global,
     line: &str,
     input: &mut R,
-    out: &mut W,
+    out: &mut WatchedWriter<W>,
 ) -> (u8, String) {
     let written = RefCell::new(Vec::new(alloc));
     let files = FaultyFiles {
@@ -327,9 +327,9 @@ fn input_breaks_off(rt: &impl Abort, alloc: Global, failure: Failure) {
         left: SCRIPT.0.as_bytes(),
         failure,
     };
-    let mut out = Vec::new(alloc);
+    let mut out = WatchedWriter::new(Vec::new(alloc));
     let (status, err) = ends(rt, alloc, "life WORKED --image first", &mut input, &mut out);
-    let shown = (status, err.as_str(), out.is_empty());
+    let shown = (status, err.as_str(), out.writer.is_empty());
     same_at(rt, &failure, &shown, &(3, "mcsim: E24 Read\n", true))
 }
 
@@ -361,13 +361,13 @@ fn end_of(want: &str, calls: usize) -> (u8, &str, Option<&[u8]>) {
 
 /// Looks whether what is out before a write fails is the beginning of the text.
 fn breaks_off(rt: &impl Abort, alloc: Global, shown: &LifeSession, failure: Failure) {
-    let mut out = FailingWriter {
+    let mut out = WatchedWriter::new(FailingWriter {
         taken: Vec::new(alloc),
         failure,
-    };
+    });
     let mut script = shown.script.as_bytes();
     let (status, err) = ends(rt, alloc, shown.line, &mut script, &mut out);
-    let found = (status, err.as_str(), Some(out.taken.as_slice()));
+    let found = (status, err.as_str(), Some(out.writer.taken.as_slice()));
     same_at(rt, &failure, &found, &end_of(shown.want, failure.calls))
 }
 

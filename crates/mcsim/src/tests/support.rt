@@ -1,5 +1,5 @@
 //! What the tests of command lines share: files in memory, and sessions over them.
-use mc_command::{KnownFiles, run};
+use mc_command::{KnownFiles, WatchedWriter, run};
 use mc_fixtures::{
     FIRST_TOLD, FailingWriter, Failure, Fault, FaultyFiles, GOOD_LINE, SECOND_TOLD, change_at,
     named,
@@ -73,12 +73,12 @@ pub fn outcome_over<F: KnownFiles, R: Read>(
     words: &[String],
     input: &mut R,
 ) -> Outcome {
-    let mut out = Vec::new(alloc);
+    let mut out = WatchedWriter::new(Vec::new(alloc));
     let mut err = Vec::new(alloc);
     let status = run(files, alloc, words, input, &mut out, &mut err);
     Outcome {
         status,
-        out: text_of(rt, out),
+        out: text_of(rt, out.writer),
         err: text_of(rt, err),
         written: Vec::new(alloc),
     }
@@ -92,14 +92,14 @@ pub fn broken_over<F: KnownFiles>(
     line: &str,
     calls: usize,
 ) -> (u8, String, Vec<u8>) {
-    let mut out = FailingWriter {
+    let mut out = WatchedWriter::new(FailingWriter {
         taken: Vec::new(alloc),
         failure: Failure {
             calls,
             fault: Fault::Error,
             lasts: true,
         },
-    };
+    });
     let words = words_of(rt, alloc, line);
     let (mut input, mut err) = ([].as_slice(), Vec::new(alloc));
     let status = run(
@@ -110,7 +110,7 @@ pub fn broken_over<F: KnownFiles>(
         &mut out,
         &mut err,
     );
-    (status, text_of(rt, err), out.taken)
+    (status, text_of(rt, err), out.writer.taken)
 }
 
 /// What a command line prints over the real files, with these bytes as standard input.

@@ -14,7 +14,10 @@ returns-in_err-rules-clause-refused g c = λ input.
 pub returns-in_err-start-clause-refused : goal.returns-in_err-start-clause-refused
 returns-in_err-start-clause-refused g c = λ input.
     let p = err_from_is_err_and c.from_residual-in_err-start.result c.from_residual-in_err-start.ensures.1 in
-    rw (p.1, p.2) (inr (inl (inr c.in_err-start.ensures.refused)))
+    rw (p.1, p.2) (inr (inl (inr (elim c.in_err-start.ensures.refused [
+      | inl device ↦ inl device
+      | inr fails ↦ inr (c.in_ok-layout.layout, c.in_ok-layout.ensures.given, fails)
+    ]))))
 
 pub returns-clause-device : goal.returns-clause-device
 returns-clause-device g c = rw c.with_rules.ensures (rw c.in_ok-start.ensures.layout c.in_ok-start.ensures.device)

@@ -1,11 +1,16 @@
-use Rattle.std.proofs.{Common.{arith, inl}, lemmas.Result.{err_from_is_err_and}}
-use Rattle.mc_actions.proofs.Shelving.{all_shelved, shelved_more}
+use Rattle.std.proofs.{Common.{arith, inl, inr, refl}, lemmas.Result.{err_from_is_err_and}}
+use Rattle.mc_actions.proofs.Shelving.{all_shelved, refused_at, shelved_more}
 use Rattle.mc_actions.proofs.life.read_shelf.Goals as goal
 
 pub returns-in_err-add_file-clause-refused : goal.returns-in_err-add_file-clause-refused
 returns-in_err-add_file-clause-refused g c =
     let p = err_from_is_err_and c.from_residual-in_err-add_file.result c.from_residual-in_err-add_file.ensures.1 in
-    rw (p.1, p.2) (inl c.in_err-add_file.ensures.refused)
+    rw (p.1, p.2) (refused_at _ _ _ _ _ _ _ _ c.in_ok-names.ensures c.deref-name-items.ensures.value c.names-test.true (inl c.in_err-add_file.ensures.refused))
+
+pub returns-in-names-clause-refused : goal.returns-in-names-clause-refused
+returns-in-names-clause-refused g c =
+    let one = c.is_same_file.ensures.one_path c.if-is_same_file.true in
+    rw c.in-Some.is (refused_at _ _ _ _ _ _ _ _ c.in_ok-names.ensures c.deref-name-items.ensures.value c.names-test.true (inr (refl, one)))
 
 pub names-preserved : goal.names-preserved
 names-preserved g c = record {

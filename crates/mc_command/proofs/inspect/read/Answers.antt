@@ -7,7 +7,7 @@ returns-clause-given g c = rw c.of_dump.ensures (record {
   dump = record {
     layout = rw c.in_ok-start.ensures.layout c.in-Ok.ensures.layout;
     rules = rw c.in_ok-start.ensures.rules c.in-Ok.ensures.rules;
-    bytes = (c.in-Ok.dump.path.now, c.in-Ok.ensures.path, c.in_ok-start.ensures.bytes);
+    bytes = (c.in-Ok.dump.path.now, c.in-Ok.ensures.path, rw c.in_ok-start.ensures.layout c.in_ok-start.ensures.bytes);
   };
   images = c.in_ok-images.ensures.given;
   asked = c.in_ok-asked.ensures.given;

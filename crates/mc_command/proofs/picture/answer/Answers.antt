@@ -1,7 +1,7 @@
 use Rattle.std.specs.{Prelude.{Err, List, MatchResult, Ok, OnErr, OnOk, Option, Result, ℕ}, Result.{IsErrAnd}}
-use Rattle.std.proofs.{Common.{◌≡◌, ◌⊎◌, inl, inr, refl}, lemmas.Result.{err_from_is_err_and}}
+use Rattle.std.proofs.{Common.{◌≡◌, ◌≤◌, ◌⊎◌, inl, inr, refl}, lemmas.Result.{err_from_is_err_and}}
 use Rattle.mc_actions.specs.declared.schedule.Scheduled.{Scheduled}
-use Rattle.mc_command.specs.Pictures.{AnswersPicture}
+use Rattle.mc_command.specs.Pictures.{AnswersPicture, HasRows}
 use Rattle.mc_command.proofs.picture.answer.Goals as goal
 use Rattle.mc_options.specs.Requests.{End}
 use Rattle.mc_options.specs.declared.refusal.Refusal.TheVariants as refusals
@@ -10,15 +10,15 @@ use Rattle.mc_trace.specs.{Picture.{BeginsPicture, Draws}, declared.error.TraceE
 use Rattle.mc_verdict.specs.{Verdicts.{expected_ends}, declared.verdict.Ends.{Ends}}
 
 -- A page that is drawn, or not, where an error is made of another.
-drawn : (s : Scheduled) (ends : Ends) (span : Span) (old new : Option (List ℕ)) (r : Result (Unit {0}) TraceError) (m : End)
+drawn : (s : Scheduled) (ends : Ends) (span : Span) (old new : Option (List ℕ)) (r : Result (Unit {0}) TraceError) (m : End) → HasRows s span (λ n. n ≤ 20000)
     → OnOk r (Draws (expected_ends ends s.start.named) span (begun s.start) s.schedule old new)
     → OnErr r ((new ≡ old) ⊎ BeginsPicture (expected_ends ends s.start.named) span (begun s.start) s.schedule old new)
     → MatchResult r (λ x. m ≡ Ok x) (λ e. IsErrAnd m (λ d. d ≡ refusals.Trace e)) → AnswersPicture s ends span old new m
-drawn s ends span old new (Ok done) m whole part made = inl (record { text = whole.0; is = whole.1 }, made, whole.2)
-drawn s ends span old new (Err e) m whole (inl same) made =
+drawn s ends span old new (Ok done) m few whole part made = inl (record { text = whole.0; is = whole.1; few = few }, made, whole.2)
+drawn s ends span old new (Err e) m few whole (inl same) made =
     let d = err_from_is_err_and m made in rw d.1 (rw d.2 (inr (inl (refusals.Trace e, refl, inr (inr (e, refl)), same))))
-drawn s ends span old new (Err e) m whole (inr part) made =
-    let d = err_from_is_err_and m made in rw d.1 (rw d.2 (inr (inr (refusals.Trace e, refl, (e, refl), record { text = part.0; is = part.1 }, part.2))))
+drawn s ends span old new (Err e) m few whole (inr part) made =
+    let d = err_from_is_err_and m made in rw d.1 (rw d.2 (inr (inr (refusals.Trace e, refl, (e, refl), record { text = part.0; is = part.1; few = few }, part.2))))
 
 pub returns-in_err-check_rows : goal.returns-in_err-check_rows
 returns-in_err-check_rows g c =
@@ -30,4 +30,6 @@ pub returns : goal.returns
 returns g c =
     let whole = rw (c.expectation-expectation.ensures, c.named.ensures) at c.write_picture.ensures.drawn in
     let part = rw (c.expectation-expectation.ensures, c.named.ensures) at c.write_picture.ensures.begun in
-    drawn _ _ _ _ _ _ _ whole part c.map_err.ensures.cases
+    let few : HasRows c.args.given.now c.args.span (λ n. n ≤ 20000) =
+    record { outcome = _; left = _; replayed = c.in-Ok.ensures.replayed; many = rw c.cuts.ensures.value at c.in_ok-check_rows.ensures } in
+    drawn _ _ _ _ _ _ _ few whole part c.map_err.ensures.cases
