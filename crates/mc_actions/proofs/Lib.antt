@@ -1,2 +1,3 @@
 mod Showing
 mod Shelving
+mod Explaining

@@ -1,6 +1,7 @@
+pub mod Explained
 pub mod Images
 pub mod Layouts
 pub mod Lives
-pub mod Schedules
 pub mod Rounds
+pub mod Schedules
 pub mod Vectors

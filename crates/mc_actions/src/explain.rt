@@ -1,107 +1,149 @@
 //! `explain`: what a refusal means.
+ghost use Rattle.std.specs.Prelude.{◌≡◌, ◌↔◌, ◌++◌, ℕ, List, [], true, string_bytes, IfOk, IfSome, OnOk};
+ghost use Rattle.clap.specs.Matches.{found_of};
+ghost use Rattle.mc_actions.specs.Explained.{AnswersExplained, Explains, GivesExplained, IsNumbered, Takes, text_of};
+
 use clap::ArgMatches;
-use mc_cli::{Explanation, all_explanations, explanation_of};
+use mc_cli::{Explanation, all_explanations};
 use mc_options::Refusal;
+use mc_output::write_text;
+use std::alloc::{AllocError, Global};
 use std::io::Write;
 
-/// Prints what the refusal of a number means, which may be written as it is printed: `33`, `E33` or `e33`; or what those of a name mean, in
-/// capital or small letters. Without either it prints all refusals, a line each.
-///
-/// # Errors
-///
-/// `Unexplained` where no refusal has that number or name; `Write` where the output cannot be written.
-pub fn run<O: Write>(arguments: &ArgMatches<'_>, out: &mut O) -> Result<(), Refusal> {
-    let Some(text) = arguments.get_str("NUMBER") else {
-        return list(out);
+/// What is to be explained.
+#[derive(Clone, Copy, Debug)]
+pub enum Explained<'p> {
+    /// All refusals, a line each.
+    All,
+    /// The refusal of a number.
+    Number(u8),
+    /// The refusals of a name, in capital or small letters.
+    Named(&'p str),
+}
+
+/// The number that a text says, which may be written as it is printed: `33`, `E33` or `e33`.
+fn number_of(text: &str) -> Option<u8>
+    ensures { IfSome result (λ n. IsNumbered n text.now) }
+{
+    let digits = match (text.strip_prefix('E'), text.strip_prefix('e')) {
+        (Some(digits), _) | (None, Some(digits)) => digits,
+        (None, None) => text,
     };
-    let digits = text.strip_prefix(['E', 'e']).unwrap_or(text);
-    match digits.parse::<u8>() {
-        Ok(number) => match explanation_of(number) {
-            Some(explanation) => write_whole(explanation, out),
-            None => Err(Refusal::Unexplained),
-        },
-        Err(_) => explain_named(text, out),
-    }
+    digits.parse().ok()
 }
 
-/// Prints what the refusals of a name mean.
-///
-/// # Errors
-///
-/// `Unexplained` where none has it; `Write`.
-fn explain_named<O: Write>(name: &str, out: &mut O) -> Result<(), Refusal> {
-    let mut is_found = false;
-    for explanations in all_explanations() {
-        is_found = write_named(explanations, name, out)? || is_found;
-    }
-    if is_found {
-        Ok(())
-    } else {
-        Err(Refusal::Unexplained)
-    }
-}
-
-/// Prints what those of some refusals mean that have a name, and whether there are any.
-///
-/// # Errors
-///
-/// `Write`.
-fn write_named<O: Write>(
-    explanations: &[Explanation],
-    name: &str,
-    out: &mut O,
-) -> Result<bool, Refusal> {
-    let mut is_found = false;
-    for explanation in explanations {
-        if explanation.name.eq_ignore_ascii_case(name) {
-            is_found = true;
-            write_whole(explanation, out)?;
+impl<'p> Explained<'p> {
+    /// What the words ask for: the refusal of a number, or those of a name; without either all.
+    pub fn read(arguments: &ArgMatches<'p>) -> Explained<'p>
+        ensures { GivesExplained (found_of arguments.now) result }
+    {
+        let Some(text) = arguments.get_str("NUMBER") else {
+            return Explained::All;
+        };
+        match number_of(text) {
+            Some(number) => Explained::Number(number),
+            None => Explained::Named(text),
         }
     }
-    Ok(is_found)
-}
 
-/// Prints all refusals, a line each.
-///
-/// # Errors
-///
-/// `Write`.
-fn list<O: Write>(out: &mut O) -> Result<(), Refusal> {
-    for explanations in all_explanations() {
-        write_heads(explanations, out)?;
+    /// Whether a refusal is one of these.
+    fn takes(&self, explanation: &Explanation) -> bool
+        ensures { (result ≡ true) ↔ Takes self.now explanation.now }
+    {
+        match self {
+            Explained::All => true,
+            Explained::Number(number) => explanation.number == *number,
+            Explained::Named(name) => explanation.name.eq_ignore_ascii_case(name),
+        }
     }
-    Ok(())
-}
 
-/// Prints some refusals, a line each.
-///
-/// # Errors
-///
-/// `Write`.
-fn write_heads<O: Write>(explanations: &[Explanation], out: &mut O) -> Result<(), Refusal> {
-    for explanation in explanations {
-        write_head(explanation, out)?;
+    /// What is told of one.
+    ///
+    /// # Errors
+    ///
+    /// Where an allocation failed.
+    fn text(&self, alloc: Global, explanation: &Explanation) -> Result<String, AllocError>
+        ensures { IfOk result (λ text. string_bytes text ≡ text_of self.now explanation.now) }
+    {
+        let (number, name, status) = (explanation.number, explanation.name, explanation.status);
+        let mut text = format!(in alloc; "E{number} {name}, exit status {status}\n")?;
+        if let Explained::Number(_) | Explained::Named(_) = self {
+            let (when, remedy) = (explanation.when, explanation.remedy);
+            text.push_str(format!(in alloc; "{when}\n{remedy}\n")?.as_str())?;
+        }
+        Ok(text)
     }
-    Ok(())
-}
 
-/// Prints a refusal's number, its name and the status of a command that ends with it.
-///
-/// # Errors
-///
-/// `Write`.
-fn write_head<O: Write>(explanation: &Explanation, out: &mut O) -> Result<(), Refusal> {
-    let (number, name, status) = (explanation.number, explanation.name, explanation.status);
-    writeln!(out, "E{number} {name}, exit status {status}").map_err(|_| Refusal::Write)
-}
+    /// Adds what is told of a refusal, if it is one of these.
+    ///
+    /// # Errors
+    ///
+    /// Where an allocation failed.
+    fn add(
+        &self,
+        alloc: Global,
+        explanation: &Explanation,
+        text: &mut String,
+    ) -> Result<(), AllocError>
+        ensures { OnOk result (Explains self.now (string_bytes text.old)
+            → Explains self.now (string_bytes text.new)) }
+    {
+        if !self.takes(explanation) {
+            return Ok(());
+        }
+        text.push_str(self.text(alloc, explanation)?.as_str())?;
+        Ok(())
+    }
 
-/// Prints these, when it comes, and what to do.
-///
-/// # Errors
-///
-/// `Write`.
-fn write_whole<O: Write>(explanation: &Explanation, out: &mut O) -> Result<(), Refusal> {
-    write_head(explanation, out)?;
-    let (when, remedy) = (explanation.when, explanation.remedy);
-    write!(out, "{when}\n{remedy}\n").map_err(|_| Refusal::Write)
+    /// Adds what is told of those among some refusals.
+    ///
+    /// # Errors
+    ///
+    /// Where an allocation failed.
+    fn add_all(
+        &self,
+        alloc: Global,
+        explanations: &[Explanation],
+        text: &mut String,
+    ) -> Result<(), AllocError>
+        ensures { OnOk result (Explains self.now (string_bytes text.old)
+            → Explains self.now (string_bytes text.new)) }
+    {
+        for explanation in explanations {
+            self.add(alloc, explanation, text)?;
+        }
+        Ok(())
+    }
+
+    /// What is told of all of them.
+    ///
+    /// # Errors
+    ///
+    /// Where an allocation failed.
+    fn whole_text(&self, alloc: Global) -> Result<String, AllocError>
+        ensures { IfOk result (λ text. Explains self.now (string_bytes text)) }
+    {
+        let mut text = String::new(alloc);
+        for explanations in all_explanations() {
+            self.add_all(alloc, explanations, &mut text)?;
+        }
+        Ok(text)
+    }
+
+    /// Prints what these refusals mean: of each its number, its name and the status of a command that ends with it; where not all are
+    /// asked for also when it comes, and what to do.
+    ///
+    /// # Errors
+    ///
+    /// `Unexplained` where there is none; `Memory`; `Write`.
+    pub fn answer<O: Write>(&self, alloc: Global, out: &mut O) -> Result<(), Refusal>
+        ensures { AnswersExplained self.now (O.contents out.old) (O.contents out.new) result }
+    {
+        let text = self.whole_text(alloc)?;
+        if text.is_empty() {
+            return Err(Refusal::Unexplained);
+        }
+        write_text(out, text.as_str().as_bytes())?;
+        Ok(())
+    }
 }

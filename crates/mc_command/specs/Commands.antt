@@ -4,6 +4,7 @@ use Rattle.std.specs.Prelude.{Bool, Err, List, Ok, Option, Result, Some, codes, 
 use Rattle.clap.specs.{Matches.{has_subcommand, subcommand_name_of}, Values.{kind_of}, Words.{first_value, rows_of, subcommand_rows_of}}
 use Rattle.clap.specs.{declared.error.Error.{Error}, declared.error.kind.ErrorKind.{ErrorKind}, declared.parser.matches.ArgMatches.{ArgMatches}, declared.parser.matches.Found.{Found}}
 use Rattle.clap.specs.declared.error.kind.ErrorKind.TheVariants as clap
+use Rattle.mc_actions.specs.Explained.{AnswersExplained, GivesExplained}
 use Rattle.mc_actions.specs.Images.{AnswersCreate, AnswersInfile, GivesCreation, GivesInfile, LacksCreation}
 use Rattle.mc_actions.specs.Lives.{AnswersLife, GivesLife, LacksLife}
 use Rattle.mc_actions.specs.Layouts.{AnswersLayout, AnswersType, LacksTimedLayout}
@@ -63,6 +64,7 @@ Asks name holds found (requests.Survey a e) =
     (name ≡ codes "survey") × (AsksTwo found → ⊥) × GivesExploration subject NoChoice (λ _ _. false) holds found a e
 Asks name holds found (requests.CampaignSurvey a e) =
     (name ≡ codes "survey") × AsksTwo found × GivesExploration campaigns Confirms is_left_alone holds found a e
+Asks name holds found (requests.Explain x) = (name ≡ codes "explain") × GivesExplained found x
 Asks name holds found (requests.Census w) = (name ≡ codes "census") × (AsksTwo found → ⊥) × GivesWanted NoChoice (λ _ _. false) holds found w
 Asks name holds found (requests.CampaignCensus w) = (name ≡ codes "census") × AsksTwo found × GivesWanted Confirms is_left_alone holds found w
 
@@ -86,6 +88,7 @@ command_name commands.Explore = codes "explore"
 command_name commands.Campaign = codes "campaign"
 command_name commands.Survey = codes "survey"
 command_name commands.Census = codes "census"
+command_name commands.Explain = codes "explain"
 
 -- Why words that may ask for one round or for two ask for nothing.
 abbrev LacksRounds : (Holds → Found → Refusal → Type 0) → (Holds → Found → Refusal → Type 0) → Holds → Found → Refusal → Type 0
@@ -98,8 +101,8 @@ LacksSchedules = LacksExploration IsNoCursor IsNoSchedule
 abbrev LacksCampaigns : Holds → Found → Refusal → Type 0
 LacksCampaigns = LacksExploration IsNoCampaignCursor IsNoCampaign
 
--- Why the words of a command ask for nothing: each refusal by its condition; and which files, or their bytes, are refused. Nothing that `verify`
--- and `dumpinfo` take is refused before it is answered.
+-- Why the words of a command ask for nothing: each refusal by its condition; and which files, or their bytes, are refused. Nothing that `verify`,
+-- `dumpinfo` and `explain` take is refused before it is answered.
 abbrev pub Lacks : Command → Holds → Found → Refusal → Type 0
 Lacks commands.Create = λ holds. LacksCreation
 Lacks commands.Verify = λ holds found e. ⊥
@@ -119,6 +122,7 @@ Lacks commands.Explore = LacksSchedules
 Lacks commands.Campaign = LacksCampaigns
 Lacks commands.Survey = LacksRounds LacksSchedules LacksCampaigns
 Lacks commands.Census = LacksRounds LacksCensus LacksCensus
+Lacks commands.Explain = λ holds found e. ⊥
 
 -- The same by the name of a command; or no command has that name.
 abbrev pub LacksNamed : List ℕ → Holds → Found → Refusal → Type 0
@@ -163,15 +167,15 @@ Answers (requests.Explore a e) holds input = AnswersPage subject schedules.field
 Answers (requests.Campaigns a e) holds input = AnswersPage campaigns fields_of e a
 Answers (requests.Survey a e) holds input = AnswersSurvey subject schedules.fields_of e a
 Answers (requests.CampaignSurvey a e) holds input = AnswersSurvey campaigns fields_of e a
+Answers (requests.Explain x) holds input = AnswersExplained x
 Answers (requests.Census w) holds input = AnswersCensus subject w
 Answers (requests.CampaignCensus w) holds input = AnswersCensus campaigns w
 
--- The command of a name is run. Apart stand `life`, whose script may be standard input, and `explain`, of whose text nothing is stated.
+-- The command of a name is run. Apart is `life`, whose script may be standard input.
 abbrev pub Runs : List ℕ → Holds → Found → Option (List ℕ) → Option (List ℕ) → Option (List ℕ) → End → Type 0
 Runs name holds found input before after end =
-    (name ≡ codes "explain")
-    ⊎ (((name ≡ codes "life") × IsRun (GivesLife holds input found) (LacksLife holds input found) AnswersLife before after end)
-    ⊎ ((name ≡ codes "life" → ⊥) × IsRun (Asks name holds found) (LacksNamed name holds found) (λ request. Answers request holds input) before after end))
+    ((name ≡ codes "life") × IsRun (GivesLife holds input found) (LacksLife holds input found) AnswersLife before after end)
+    ⊎ ((name ≡ codes "life" → ⊥) × IsRun (Asks name holds found) (LacksNamed name holds found) (λ request. Answers request holds input) before after end)
 
 -- All of a text was out before a command ended so: it was done; or a verdict on it is refused; or an event of a life, and those before it are told.
 abbrev pub follows_text : End → Bool

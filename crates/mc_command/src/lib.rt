@@ -17,7 +17,7 @@ mod tears;
 use clap::error::ErrorKind;
 use clap::{ArgMatches, Error};
 pub use inspect::{Inspected, LocateAsked};
-use mc_actions::{explain, life};
+use mc_actions::life;
 pub use mc_cli::{KnownFiles, WatchedWriter};
 use mc_cli::{WatchedFiles, left_out, parse};
 use mc_options::{
@@ -232,7 +232,6 @@ fn run_command<F: KnownFiles, R: Read, O: Write, E: Write>(
 {
     match name {
         "life" => run_life(files, alloc, arguments, input, out),
-        "explain" => explain::run(arguments, out),
         _ => run_request(files, alloc, name, arguments, input, out, err),
     }
 }

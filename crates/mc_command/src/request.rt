@@ -9,6 +9,7 @@ use crate::tears::TearsAsked;
 use crate::{inspect, picture, tears};
 use clap::ArgMatches;
 use mc_actions::creation::Creation;
+use mc_actions::explain::Explained;
 use mc_actions::infile::infile_named;
 use mc_actions::rounds::{Campaigned, RoundText};
 use mc_actions::schedule::{Outputs, Scheduled};
@@ -47,6 +48,7 @@ pub enum Command {
     Campaign,
     Survey,
     Census,
+    Explain,
 }
 
 impl Command {
@@ -74,6 +76,7 @@ impl Command {
             "campaign" => Some(Command::Campaign),
             "survey" => Some(Command::Survey),
             "census" => Some(Command::Census),
+            "explain" => Some(Command::Explain),
             _ => None,
         }
     }
@@ -124,6 +127,8 @@ pub enum Request<'p> {
     Census(Wanted<()>),
     /// What all campaigns come to.
     CampaignCensus(Wanted<bool>),
+    /// What refusals mean.
+    Explain(Explained<'p>),
 }
 
 impl<'p> Request<'p> {
@@ -163,6 +168,7 @@ impl<'p> Request<'p> {
             Command::Campaign => read_campaign(files, alloc, arguments),
             Command::Survey => read_survey(files, alloc, arguments),
             Command::Census => read_census(files, alloc, arguments),
+            Command::Explain => Ok(Request::Explain(Explained::read(arguments))),
         }
     }
 
@@ -216,6 +222,7 @@ impl<'p> Request<'p> {
             }
             Request::Census(wanted) => census::run::<Schedules, O>(wanted, alloc, out),
             Request::CampaignCensus(wanted) => census::run::<Campaigns, O>(wanted, alloc, out),
+            Request::Explain(explained) => explained.answer(alloc, out),
         }
     }
 }
