@@ -2,3 +2,4 @@ mod Judging
 pub mod Asking
 mod Answering
 mod Paging
+mod Shortening

@@ -1,4 +1,5 @@
-pub mod Verdicts
-pub mod Sessions
-pub mod Requests
 pub mod PagesAsked
+pub mod Requests
+pub mod Sessions
+pub mod Shortest
+pub mod Verdicts

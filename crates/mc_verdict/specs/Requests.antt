@@ -1,11 +1,11 @@
 -- How a census is answered.
-use Rattle.std.specs.{Prelude.{◌≡◌, ℕ, List, Option, Err, ◌++◌, ◌⊎◌, true}, Io.KnownBytes.{Appends}}
+use Rattle.std.specs.{Prelude.{◌≡◌, ℕ, List, Option, Err, is_some, ◌++◌, ◌⊎◌, true}, Io.KnownBytes.{Appends}}
 use Rattle.mc_explore.specs.{Census.{census_text}, Subject.{Subject}}
 use Rattle.mc_explore.specs.declared.error.ExploreError.TheVariants as errors
 use Rattle.mc_options.specs.{Requests.{End, IsAnswered, IsUnwritten}, declared.refusal.Refusal.{Refusal}}
 use Rattle.mc_options.specs.declared.refusal.Refusal.TheVariants as refusals
 use Rattle.mc_output.specs.Text.{AppendsPrefix}
-use Rattle.mc_verdict.specs.{Sessions.{AreCounts, ends_of, or_any}, Verdicts.{IsExpectation, IsVerdict, is_of_slots, lines_of}}
+use Rattle.mc_verdict.specs.{Shortest.{shortest_text}, Sessions.{AreCounts, ends_of, or_any}, Verdicts.{IsExpectation, IsVerdict, is_of_slots, lines_of}}
 use Rattle.mc_verdict.specs.{declared.census.Counts.{Counts}, declared.census.Wanted.{Wanted}}
 
 -- When there is no census: memory fails, or what is to be right is not known.
@@ -13,9 +13,9 @@ abbrev pub RefusesCensus : {C : Type 0} → Wanted C → Refusal → Type 0
 RefusesCensus w e = (e ≡ refusals.Explore errors.Memory) ⊎ IsExpectation w.asked (ends_of w.images_return w.start.named) (Err e)
 
 module _ {C K R U : Type 0} (x : Subject C K R U) where
-  -- The lines of a census, and of what of it is right where that is asked.
+  -- The lines of a census, of what of it is right where that is asked, and of the shortest rows that do not end so.
   abbrev pub counts_text : Counts K → List ℕ
-  counts_text c = census_text x c.census ++ lines_of x c.rights
+  counts_text c = census_text x c.census ++ (lines_of x c.rights ++ shortest_text x (is_some c.rights) c.shortest)
 
   -- What a census that is asked for comes to.
   pub record CensusAsked (w : Wanted C) : Type 0 where

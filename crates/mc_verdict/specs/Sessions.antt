@@ -8,14 +8,13 @@ use Rattle.mc_explore.specs.{Census.{IsCensus}, Pages.{ShownIsOut}, Right.{AreRi
 use Rattle.mc_explore.specs.{Subject.{Explored, GoesOnBeyond, Resumes, StandsBefore, State, Subject, at_start, rows_of}, declared.error.ExploreError.{ExploreError}}
 use Rattle.mc_explore.specs.declared.error.ExploreError.TheVariants as errors
 use Rattle.mc_explore.specs.declared.expectation.Expectation.{Expectation}
-use Rattle.mc_explore.specs.declared.expectation.Wanted.TheVariants as wanted
 use Rattle.mc_explore.specs.{declared.rights.RightsOf.{RightsOf}, declared.subject.Fields.{Fields}, declared.tally.TallyOf.{TallyOf}}
 use Rattle.mc_image.specs.Valid.{Identity}
 use Rattle.mc_start.specs.{Cursor.{IsCursor, cursor_text}, Start.{begun}, declared.cursor.Cursor.{Cursor}}
 use Rattle.mc_campaign.specs.declared.cursor.CampaignCursor.{CampaignCursor}
 use Rattle.mc_campaign.specs.Texts as campaigns
 use Rattle.mc_options.specs.{Arguments.{GivesExtent, GivesFlash, GivesRange}, Numbers.{GivesNumber}, Refusals.{LacksExtent, LacksFlash, LacksRange, LacksRequired}, Sources.{FailsStart, IsStartOf}}
-use Rattle.mc_verdict.specs.{Verdicts.{IsExpectation, GivesAsked, IsJudged, LacksEnds, NeverJudged}, declared.verdict.Asked.{Asked}, declared.census.Counts.{Counts}, declared.census.Wanted.{Wanted}}
+use Rattle.mc_verdict.specs.{Shortest.{IsShortest, anything}, Verdicts.{IsExpectation, GivesAsked, IsJudged, LacksEnds, NeverJudged}, declared.verdict.Asked.{Asked}, declared.census.Counts.{Counts}, declared.census.Wanted.{Wanted}}
 use Rattle.mc_verdict.specs.declared.explore.Exploration.{Exploration}
 use Rattle.mc_options.specs.declared.numbers.NumberOption.TheVariants as numbers
 use Rattle.mc_options.specs.{declared.options.FlashOptions.{FlashOptions}, declared.options.Source.{Source}}
@@ -43,7 +42,7 @@ ends_of false (Some (one, other)) = Some (one, other)
 
 -- What is to be right, or anything.
 abbrev pub or_any : Option Expectation → Expectation
-or_any e = unwrap_or e (record { primary = wanted.Anything; secondary = wanted.Anything })
+or_any e = unwrap_or e anything
 
 -- The arguments give an exploration: its start, what is chosen, how far it goes, which rows it gives, and what is asked of them, of a layout
 -- that swaps.
@@ -135,9 +134,16 @@ module _ {C K R U : Type 0} (x : Subject C K R U) where
   AreRightsIf None start choice bound (Some rights) = ⊥
   AreRightsIf (Some e) start choice bound None = ⊥
 
-  -- Its census, and what of it is right as is asked.
+  -- The shortest row that is not right, where that is asked.
+  abbrev pub IsShortestIf : Option Expectation → PowerOn → C → ℕ → Option K → Type 0
+  IsShortestIf None start choice bound key = key ≡ None
+  IsShortestIf (Some e) start choice bound key = IsShortest x e start choice bound key
+
+  -- Its census, what of it is right as is asked, and the shortest rows that do not end so.
   pub record AreCounts (w : Wanted C) (c : Counts K) : Type 0 where
     pub comes_to : IsCensus x (begun w.start) w.choice w.cuts c.census
     pub expectation : Option Expectation
     pub expects : IsExpectation w.asked (ends_of w.images_return w.start.named) (Ok expectation)
     pub rights : AreRightsIf expectation (begun w.start) w.choice w.cuts c.rights
+    pub not_boot : IsShortest x anything (begun w.start) w.choice w.cuts c.shortest.not_boot
+    pub not_right : IsShortestIf expectation (begun w.start) w.choice w.cuts c.shortest.not_right

@@ -6,12 +6,13 @@ ghost use Rattle.mc_verdict.specs.Requests.{AnswersCensus, ConcludesCensus, Refu
 ghost use Rattle.mc_explore.specs.Census.{census_by};
 ghost use Rattle.mc_explore.specs.declared.expectation.Expectation.{Expectation as Expected};
 ghost use Rattle.clap.specs.Matches.{found_of};
-ghost use Rattle.mc_verdict.specs.Sessions.{AreCounts, AreRightsIf, GivesWanted, LacksCensus};
+ghost use Rattle.mc_verdict.specs.Sessions.{AreCounts, AreRightsIf, GivesWanted, IsShortestIf, LacksCensus};
 ghost use Rattle.mc_verdict.specs.Verdicts.{AreCounted, IsVerdict, is_of_slots};
 ghost use Rattle.mc_start.specs.Start.{begun};
 
 use crate::explorable::Explorable;
 use crate::explore::{ends, images_return};
+use crate::shortest::{Shortest, shortest_wrong, write_shortest};
 use crate::verdict::{Asked, right_if_asked, write_lines};
 use clap::ArgMatches;
 use mc_cli::KnownFiles;
@@ -43,6 +44,7 @@ pub struct Counts<K> {
     census: CensusOf<K>,
     // What of it is right, where that was asked.
     rights: Option<RightsOf<K>>,
+    shortest: Shortest<K>,
 }
 
 /// How many rows from a start are right, where that is asked.
@@ -65,6 +67,35 @@ fn rights_if<X: Subject>(
     match expectation {
         Some(e) => Ok(Some(take_rights::<JournalFlash, X>(alloc, start, cuts, chosen, e)?)),
         None => Ok(None),
+    }
+}
+
+/// The key of the shortest row that is not right, where that is asked.
+///
+/// # Errors
+///
+/// `Explore` where memory failed.
+fn shortest_if<X: Subject>(
+    alloc: Global,
+    start: &Start,
+    cuts: u8,
+    chosen: X::Choice,
+    expectation: &Option<Expectation>,
+    rights: &Option<RightsOf<X::Key>>,
+) -> Result<Option<X::Key>, Refusal>
+    requires few { cuts ≤ 16 }
+    requires rights { AreRightsIf X.subject expectation.now (begun start.now) chosen cuts
+        rights.now }
+    ensures shortest { IfOk result (IsShortestIf X.subject expectation.now (begun start.now) chosen
+        cuts) }
+    ensures err { IfErr result (λ e. e ≡ Refusal.Explore ExploreError.Memory) }
+{
+    match (expectation, rights) {
+        (Some(e), Some(rights)) => {
+            let first = &rights.first_not_right;
+            shortest_wrong::<X>(alloc, start, cuts, chosen, e, first)
+        }
+        _ => Ok(None),
     }
 }
 
@@ -145,15 +176,26 @@ pub fn count<X: Subject>(
     let expectation = wanted
         .asked
         .expectation(ends(wanted.images_return, start.named()))?;
+    let rights = rights_if::<X>(alloc, start, cuts, choice, &expectation)?;
+    let census = take_census::<JournalFlash, X>(alloc, start, cuts, choice)?;
+    let any = Expectation::any();
+    let first = &census.first_not_boot;
+    let not_boot = shortest_wrong::<X>(alloc, start, cuts, choice, &any, first)?;
+    let not_right = shortest_if::<X>(alloc, start, cuts, choice, &expectation, &rights)?;
+    let shortest = Shortest {
+        not_boot,
+        not_right,
+    };
     Ok(Counts {
-        rights: rights_if::<X>(alloc, start, cuts, choice, &expectation)?,
-        census: take_census::<JournalFlash, X>(alloc, start, cuts, choice)?,
+        census,
+        rights,
+        shortest,
     })
 }
 
 /// Prints how many schedules, or campaigns, of at most so many cuts can occur, how many of them with each result, the largest number
 /// of operations of a last boot, and the first that does not end in a boot. Where something is expected of the slots, also how many
-/// are right, and the first that is not.
+/// are right, and the first that is not. Last come the shortest that does not end in a boot, and that is not right.
 ///
 /// # Errors
 ///
@@ -186,7 +228,8 @@ fn write_counts<X: Subject, O: Write>(
         (counts_text X.subject counts.now)) }
 {
     write_census::<X, O>(&counts.census, out)?;
-    write_lines::<X, O>(&counts.rights, out)
+    write_lines::<X, O>(&counts.rights, out)?;
+    write_shortest::<X, O>(&counts.shortest, counts.rights.is_some(), out)
 }
 
 /// Prints what rows come to, and gives the verdict on them.

@@ -5,7 +5,9 @@
 pub mod census;
 mod explorable;
 pub mod explore;
+mod shortest;
 mod verdict;
 
 pub use explorable::Explorable;
+pub use shortest::Shortest;
 pub use verdict::{Asked, Ends};
