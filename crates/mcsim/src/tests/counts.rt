@@ -55,33 +55,33 @@ rows 116; boot 115; none 1; panic 0; fault 0; most-ops 115; end; ! mcsim: E74 No
 /// Censuses. The last one is of all schedules of a revert.
 const CENSUSES: &str = "\
 $ census WORKED --kind test IMAGES --cuts 2 --all-boot
-schedules 222; boot 222; none 0; panic 0; fault 0; most-ops 18; first-not-boot none
+schedules 222; boot 222; none 0; panic 0; fault 0; most-ops 18; first-not-boot none; shortest-not-boot none
 $ census WORKED --kind revert IMAGES --cuts 2
-schedules 343; boot 343; none 0; panic 0; fault 0; most-ops 23; first-not-boot none
+schedules 343; boot 343; none 0; panic 0; fault 0; most-ops 23; first-not-boot none; shortest-not-boot none
 $ census WORKED --kind none IMAGES --cuts 16
-schedules 1; boot 1; none 0; panic 0; fault 0; most-ops 0; first-not-boot none
+schedules 1; boot 1; none 0; panic 0; fault 0; most-ops 0; first-not-boot none; shortest-not-boot none
 $ census WORKED --kind test IMAGES --cuts 17
 ! mcsim: --cuts takes a number from 0 to 16; exit 2
 $ census WORKED --flash in --cuts 2 < BEGUN,976=50000000,984=02,993=00
-schedules 127; boot 0; none 0; panic 0; fault 127; most-ops 13; first-not-boot -
+schedules 127; boot 0; none 0; panic 0; fault 127; most-ops 13; first-not-boot -; shortest-not-boot -
 $ census WORKED --flash in --cuts 2 --all-boot < BEGUN,976=50000000,984=02,993=00
-schedules 127; boot 0; none 0; panic 0; fault 127; most-ops 13; first-not-boot -; ! mcsim: E74 NotAllBoot; exit 1
+schedules 127; boot 0; none 0; panic 0; fault 127; most-ops 13; first-not-boot -; shortest-not-boot -; ! mcsim: E74 NotAllBoot; exit 1
 $ census WORKED --kind test IMAGES --cuts 0
-schedules 1; boot 1; none 0; panic 0; fault 0; most-ops 18; first-not-boot none
+schedules 1; boot 1; none 0; panic 0; fault 0; most-ops 18; first-not-boot none; shortest-not-boot none
 $ census WORKED --kind test IMAGES --cuts 1
-schedules 19; boot 19; none 0; panic 0; fault 0; most-ops 18; first-not-boot none
+schedules 19; boot 19; none 0; panic 0; fault 0; most-ops 18; first-not-boot none; shortest-not-boot none
 $ census WORKED --kind test IMAGES --cuts 3
-schedules 2058; boot 2058; none 0; panic 0; fault 0; most-ops 18; first-not-boot none
+schedules 2058; boot 2058; none 0; panic 0; fault 0; most-ops 18; first-not-boot none; shortest-not-boot none
 $ census WORKED --kind perm IMAGES --cuts 2
-schedules 247; boot 247; none 0; panic 0; fault 0; most-ops 19; first-not-boot none
+schedules 247; boot 247; none 0; panic 0; fault 0; most-ops 19; first-not-boot none; shortest-not-boot none
 $ census WORKED --kind test IMAGES --grain unit --cuts 1
-schedules 110; boot 110; none 0; panic 0; fault 0; most-ops 109; first-not-boot none
+schedules 110; boot 110; none 0; panic 0; fault 0; most-ops 109; first-not-boot none; shortest-not-boot none
 $ census WORKED --flash in --grain unit --cuts 1 < MIXED
-schedules 116; boot 115; none 1; panic 0; fault 0; most-ops 115; first-not-boot 4
+schedules 116; boot 115; none 1; panic 0; fault 0; most-ops 115; first-not-boot 4; shortest-not-boot 4
 $ census WORKED --flash in --grain unit --cuts 1 --all-boot < MIXED
-schedules 116; boot 115; none 1; panic 0; fault 0; most-ops 115; first-not-boot 4; ! mcsim: E74 NotAllBoot; exit 1
+schedules 116; boot 115; none 1; panic 0; fault 0; most-ops 115; first-not-boot 4; shortest-not-boot 4; ! mcsim: E74 NotAllBoot; exit 1
 $ census WORKED --kind revert IMAGES --cuts 16 --all-boot
-schedules ...; first-not-boot none
+schedules ...; first-not-boot none; shortest-not-boot none
 ";
 
 /// A census.

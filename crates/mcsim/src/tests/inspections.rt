@@ -28,6 +28,7 @@ panic 0
 fault 0
 most-ops 18
 first-not-boot none
+shortest-not-boot none
 $ inspect WORKED --grain unit --profile 2 --flash in --known-a first --known-b second < TORN
 verdict boots
 trailer primary magic=good image-ok=unset copy-done=set swap-info=0xff swap-size=4294967295
@@ -52,6 +53,7 @@ panic 0
 fault 0
 most-ops 115
 first-not-boot none
+shortest-not-boot none
 $ inspect WORKED --flash in < 1792:0=first,79=00
 verdict no image
 trailer primary UNSET
@@ -77,6 +79,7 @@ panic 0
 fault 0
 most-ops 0
 first-not-boot -
+shortest-not-boot -
 $ inspect --sector 256 --unit 8 --max-sectors 5 --chunk 128 --primary 4 --secondary 3 --flash in < 1792:752=MAGIC,880=03
 verdict needs another layout or another dump
 trailer primary UNSET
@@ -107,6 +110,7 @@ panic 0
 fault 0
 most-ops 0
 first-not-boot -
+shortest-not-boot -
 $ inspect WORKED --flash in --known-a first < 1792:0=first
 ! mcsim: E70 SourceOptions; exit 2
 ";
@@ -159,6 +163,8 @@ verdict boots
 first-not-boot none
 right 44166610515609
 first-not-right none
+shortest-not-boot none
+shortest-not-right none
 $ inspect WORKED --flash in --all-right < 1792:0=first
 ! mcsim: E85 NoExpectation; exit 2
 ";

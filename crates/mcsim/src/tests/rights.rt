@@ -6,15 +6,17 @@ use super::support::{Table, all_play};
 /// between units, which the first profile can forget; a part of the rows, and none, which are no verdict; a layout that never swaps.
 const IMAGES: &str = "\
 $ census WORKED --kind test IMAGES --cuts 2 --all-right
-schedules 222; boot 222; none 0; panic 0; fault 0; most-ops 18; first-not-boot none; right 222; first-not-right none
+schedules 222; boot 222; none 0; panic 0; fault 0; most-ops 18; first-not-boot none; right 222; first-not-right none; shortest-not-boot none; shortest-not-right none
 $ census WORKED --kind test IMAGES --cuts 2 --expect-primary 2.0
-schedules 222; boot 222; none 0; panic 0; fault 0; most-ops 18; first-not-boot none; right 222; first-not-right none
+schedules 222; boot 222; none 0; panic 0; fault 0; most-ops 18; first-not-boot none; right 222; first-not-right none; shortest-not-boot none; shortest-not-right none
 $ census WORKED --kind test IMAGES --cuts 2 --expect-primary 1 --all-right --all-boot
-schedules 222; boot 222; none 0; panic 0; fault 0; most-ops 18; first-not-boot none; right 0; first-not-right -; ! mcsim: E76 NotAllRight; exit 1
+schedules 222; boot 222; none 0; panic 0; fault 0; most-ops 18; first-not-boot none; right 0; first-not-right -; shortest-not-boot none; shortest-not-right -; ! mcsim: E76 NotAllRight; exit 1
 $ census WORKED --kind revert IMAGES --grain unit --cuts 1 --all-boot --all-right
-schedules 116; boot 116; none 0; panic 0; fault 0; most-ops 115; first-not-boot none; right 115; first-not-right 4; ! mcsim: E76 NotAllRight; exit 1
+schedules 116; boot 116; none 0; panic 0; fault 0; most-ops 115; first-not-boot none; right 115; first-not-right 4; shortest-not-boot none; shortest-not-right 4; ! mcsim: E76 NotAllRight; exit 1
+$ census WORKED --kind revert IMAGES --grain unit --cuts 2 --all-right
+schedules ...first-not-right 0.4; shortest-not-boot none; shortest-not-right 4; ! mcsim: E76 NotAllRight; exit 1
 $ census WORKED --kind revert IMAGES --grain unit --profile 2 --cuts 1 --all-right
-schedules 116; boot 116; none 0; panic 0; fault 0; most-ops 115; first-not-boot none; right 116; first-not-right none
+schedules 116; boot 116; none 0; panic 0; fault 0; most-ops 115; first-not-boot none; right 116; first-not-right none; shortest-not-boot none; shortest-not-right none
 $ survey WORKED --kind revert IMAGES --grain unit --cuts 1 --all-right
 rows 116; boot 116; none 0; panic 0; fault 0; most-ops 115; end; right 115; first-not-right 4; ! mcsim: E76 NotAllRight; exit 1
 $ survey WORKED --kind test IMAGES --cuts 2 --limit 100 --all-right
@@ -49,11 +51,11 @@ $ census WORKED --kind test IMAGES --cuts 2 --expect-primary x
 /// installed; rows that do not boot; and what is to be right of a flash is not known.
 const FLASHES: &str = "\
 $ census WORKED --flash in --cuts 2 --expect-primary e3103e985884e987aaeb3091f107d4ad2ae5ff4720f4c43459c3d0ff3a12650d --expect-secondary none --all-right < 1792:0=first
-schedules 1; boot 1; none 0; panic 0; fault 0; most-ops 0; first-not-boot none; right 1; first-not-right none
+schedules 1; boot 1; none 0; panic 0; fault 0; most-ops 0; first-not-boot none; right 1; first-not-right none; shortest-not-boot none; shortest-not-right none
 $ census WORKED --flash in --cuts 2 --all-boot --expect-primary 2.0.0 --expect-secondary 1.0.0 --all-right < 1792:0=second
-schedules 1; boot 1; none 0; panic 0; fault 0; most-ops 0; first-not-boot none; right 0; first-not-right -; ! mcsim: E76 NotAllRight; exit 1
+schedules 1; boot 1; none 0; panic 0; fault 0; most-ops 0; first-not-boot none; right 0; first-not-right -; shortest-not-boot none; shortest-not-right -; ! mcsim: E76 NotAllRight; exit 1
 $ census WORKED --flash in --cuts 2 --all-boot --expect-primary 2.0.0 --expect-secondary 1.0.0 --all-right < 1792:0=first,1776=MAGIC
-schedules 1; boot 1; none 0; panic 0; fault 0; most-ops 0; first-not-boot none; right 0; first-not-right -; ! mcsim: E76 NotAllRight; exit 1
+schedules 1; boot 1; none 0; panic 0; fault 0; most-ops 0; first-not-boot none; right 0; first-not-right -; shortest-not-boot none; shortest-not-right -; ! mcsim: E76 NotAllRight; exit 1
 $ survey WORKED --flash in --grain unit --cuts 1 --expect-secondary 2.0.0 --all-boot --all-right < MIXED
 ! mcsim: E85 NoExpectation; exit 2
 $ census WORKED --flash in --cuts 2 --all-right < BEGUN

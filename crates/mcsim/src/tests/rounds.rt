@@ -22,15 +22,15 @@ rows 2; boot 2; none 0; panic 0; fault 0; most-ops 23; end
 $ survey WORKED --kind none IMAGES --rounds 2 --cuts 2 --all-right
 rows 1; boot 1; none 0; panic 0; fault 0; most-ops 0; end; right 1; first-not-right none
 $ census WORKED --kind test IMAGES --rounds 2 --cuts 2 --all-boot --all-right
-schedules 978; boot 978; none 0; panic 0; fault 0; most-ops 23; first-not-boot none; right 978; first-not-right none
+schedules 978; boot 978; none 0; panic 0; fault 0; most-ops 23; first-not-boot none; right 978; first-not-right none; shortest-not-boot none; shortest-not-right none
 $ census WORKED --kind test IMAGES --rounds 2 --cuts 1 --confirm --all-right
-schedules 19; boot 19; none 0; panic 0; fault 0; most-ops 0; first-not-boot none; right 19; first-not-right none
+schedules 19; boot 19; none 0; panic 0; fault 0; most-ops 0; first-not-boot none; right 19; first-not-right none; shortest-not-boot none; shortest-not-right none
 $ census WORKED --kind test IMAGES --rounds 2 --cuts 1 --grain unit --all-boot --all-right
-schedules 225; boot 225; none 0; panic 0; fault 0; most-ops 115; first-not-boot none; right 224; first-not-right 2.4; ! mcsim: E76 NotAllRight; exit 1
+schedules 225; boot 225; none 0; panic 0; fault 0; most-ops 115; first-not-boot none; right 224; first-not-right 2.4; shortest-not-boot none; shortest-not-right 2.4; ! mcsim: E76 NotAllRight; exit 1
 $ census WORKED --kind test IMAGES --rounds 2 --cuts 1 --expect-primary 2.0.0
-schedules 42; boot 42; none 0; panic 0; fault 0; most-ops 23; first-not-boot none; right 0; first-not-right -; ! mcsim: E76 NotAllRight; exit 1
+schedules 42; boot 42; none 0; panic 0; fault 0; most-ops 23; first-not-boot none; right 0; first-not-right -; shortest-not-boot none; shortest-not-right -; ! mcsim: E76 NotAllRight; exit 1
 $ census WORKED --kind none IMAGES --rounds 2 --cuts 16 --all-right
-schedules 1; boot 1; none 0; panic 0; fault 0; most-ops 0; first-not-boot none; right 1; first-not-right none
+schedules 1; boot 1; none 0; panic 0; fault 0; most-ops 0; first-not-boot none; right 1; first-not-right none; shortest-not-boot none; shortest-not-right none
 $ census WORKED --kind test IMAGES --cuts 1 --confirm
 ! mcsim: an argument is missing or out of its range; exit 2
 $ campaign WORKED --kind test IMAGES --cuts 1 --after 1.17 --until 2.1 --all-boot

@@ -18,9 +18,9 @@ primary a0 - - -; secondary b0 - b2
 $ sectors WIDE --kind test IMAGES --schedule ZEROS
 primary a0 - - -; secondary b0 - b2
 $ census WORKED --kind test IMAGES --cuts 16
-schedules 44166610515609; boot 44166610515609; none 0; panic 0; fault 0; most-ops 18; first-not-boot none
+schedules 44166610515609; boot 44166610515609; none 0; panic 0; fault 0; most-ops 18; first-not-boot none; shortest-not-boot none
 $ census WIDE --kind test IMAGES --cuts 16
-schedules 5600643605049; boot 5600643605049; none 0; panic 0; fault 0; most-ops 15; first-not-boot none
+schedules 5600643605049; boot 5600643605049; none 0; panic 0; fault 0; most-ops 15; first-not-boot none; shortest-not-boot none
 $ explore WIDE --kind test IMAGES --cuts 16 --limit 1 --cursor mc1:WIDE-START:16:ZEROS
 FIFTEEN.1 boot test 15 2.0.0+0/80 1.0.0+0/80 revert; next mc1:WIDE-START:16:FIFTEEN.1
 $ explore WORKED --kind test IMAGES --grain unit --profile 2 --cuts 16 --limit 1 --cursor mc2:unit:2:START:16:ZEROS

@@ -38,13 +38,13 @@ cases 27
 => 1792 bytes
 $ inspect WORKED --flash in < out
 verdict boots...state busy
-...first-not-boot none
+...shortest-not-boot none
 $ tears WORKED --kind perm IMAGES --at 5 --reading magic=good,image-ok=bad --out out
 operations 19...busy
 => 1792 bytes
 $ inspect WORKED --flash in --profile 3 < out
 verdict boots...state resumes
-...first-not-boot none
+...shortest-not-boot none
 $ tears WORKED --kind none IMAGES --all
 operations 0
 cases 0
