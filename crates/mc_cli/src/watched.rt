@@ -201,8 +201,14 @@ impl<W: Write + Drop> WatchedWriter<W> {
 impl<W: Write + Drop> Write for WatchedWriter<W> {
     ghost contents = { λ w. W.contents w.writer };
 
+    #[inline(always)]
     fn write(&mut self, buf: &[u8]) -> io::Result<usize> {
         let written = self.writer.write(buf);
+        if let Ok(1..) = written
+            && self.failure.is_none()
+        {
+            return written;
+        }
         self.failure = match &written {
             Ok(0) => Some(io::Error::from(ErrorKind::WriteZero)),
             Ok(_) => None,

@@ -849,6 +849,8 @@ few megabytes, with the grain unit too; two rounds by units take a second or so.
 Where something is expected of the slots, two lines more: how many schedules boot with the expected
 images, and the first that does not. --all-right expects of two images the named one in the primary
 at the end and the other in the secondary; that takes a second census.
+Last come the shortest schedule whose result is not boot and, where something is expected, the shortest
+that does not boot with the expected images: of those with the fewest cuts the first, or none.
 With --rounds 2 campaigns are counted, as survey --rounds 2 counts them.
 A number of 2^128 - 1 or more is printed as >=340282366920938463463374607431768211455.";
 
