@@ -21,9 +21,9 @@ Which question is answered by which command:
   does my own boot loader do the same?      vectors (and scripts/conform)
 Exit status: 0 done (whatever the outcome is), 1 content refused, 2 command line refused,
 3 file, write or memory error. A refusal is one line, as `mcsim: E33 Counts`;
-`mcsim explain 33` tells what it means.
+`mcsim explain 33` says what it means.
 Numbers are decimal, or hexadecimal as 0x200.
-Signatures, encryption and hashes other than SHA-256 are not looked at.";
+Signatures, encryption and hashes other than SHA-256 are out of scope.";
 
 /// Reads the words of a command line, the program's name first.
 ///

@@ -32,7 +32,7 @@ pub fn all_explanations() -> [&'static [Explanation]; 5] {
     ]
 }
 
-/// The explanations among which that of a number stands. All of them are by their numbers, and `docs/FORMAT.md` has the same
+/// The explanations among which that of a number is. All of them are by their numbers, and `docs/FORMAT.md` has the same
 /// tables.
 fn explanations_near(number: u8) -> &'static [Explanation] {
     match number {
@@ -277,7 +277,7 @@ static FLASHES: [Explanation; 7] = [
         name: "NotErased",
         status: 1,
         when: "A write met bytes that are not 0xff.",
-        remedy: "In a life: request once behind a download. In a boot the result is fault.",
+        remedy: "In a life: request once after a download. In a boot the result is fault.",
     },
     Explanation {
         number: 41,
@@ -394,63 +394,63 @@ static COMMANDS: [Explanation; 23] = [
         number: 71,
         name: "Open",
         status: 3,
-        when: "A file cannot be opened or made.",
+        when: "A file cannot be opened or created.",
         remedy: "Check the path and your rights to it.",
     },
     Explanation {
         number: 73,
         name: "CursorOptions",
         status: 2,
-        when: "Two of --cursor, --after and --from tell where to begin.",
+        when: "Two of --cursor, --after and --from say where to begin.",
         remedy: "Give one of them.",
     },
     Explanation {
         number: 74,
         name: "NotAllBoot",
         status: 1,
-        when: "With --all-boot: after a schedule that was counted the last boot ends otherwise than in a boot.",
-        remedy: "Look for its row with explore.",
+        when: "With --all-boot: a schedule that was counted does not end in a boot.",
+        remedy: "Look at the shortest such schedule, which census prints, with trace.",
     },
     Explanation {
         number: 75,
         name: "SameFile",
         status: 2,
-        when: "A file that is to be written is one that is read, or is to be written twice, by the same or another path.",
+        when: "A file to be written is also read, or would be written twice, by the same or another path.",
         remedy: "Choose another file to write; --out may be the file of --flash. Nothing was touched.",
     },
     Explanation {
         number: 76,
         name: "NotAllRight",
         status: 1,
-        when: "With --all-right or an expectation: a schedule that was counted ends otherwise than in a boot with the expected images.",
-        remedy: "Look for its row, first-not-right, with explore.",
+        when: "With --all-right or an expectation: a schedule that was counted does not end in a boot with the expected images.",
+        remedy: "Look at the shortest such schedule, which census prints, with trace.",
     },
     Explanation {
         number: 77,
         name: "NotWhole",
         status: 1,
-        when: "A verdict is asked, and only a part of the rows was counted, or none.",
+        when: "A verdict is asked for, and only a part of the rows was counted, or none.",
         remedy: "Give --all, or count the rest by its cursor; look whether a range has rows.",
     },
     Explanation {
         number: 78,
         name: "EventSyntax",
         status: 1,
-        when: "A line of the script tells no event.",
+        when: "A line of the script is no event.",
         remedy: "See mcsim life --help for the events: words in lower case, one space between them.",
     },
     Explanation {
         number: 79,
         name: "NotRunning",
         status: 1,
-        when: "The event is one of the running image, and none runs: the power is off, or the boot failed.",
+        when: "Only a running image can do this, and none runs: the power is off, or the boot failed.",
         remedy: "Put a boot before it.",
     },
     Explanation {
         number: 80,
         name: "NotThatLong",
         status: 1,
-        when: "What is downloaded or written is longer than the file or the secondary, or what is stored is not exactly as long.",
+        when: "What is downloaded or written is longer than the file or the secondary, or the file that is stored is not exactly as long as the secondary.",
         remedy: "Check the file and the layout's numbers.",
     },
     Explanation {
@@ -464,14 +464,14 @@ static COMMANDS: [Explanation; 23] = [
         number: 82,
         name: "CannotMark",
         status: 1,
-        when: "No swap is finished (copy-done is unset), so that the image writes no image-ok.",
+        when: "No swap is finished (copy-done is unset), so the image does not write image-ok.",
         remedy: "Put a boot that ends a swap before it.",
     },
     Explanation {
         number: 83,
         name: "DeviceOptions",
         status: 2,
-        when: "What the device is delivered with is not told, or told twice.",
+        when: "What the device is delivered with is not given, or is given twice.",
         remedy: "Give --flash or --image.",
     },
     Explanation {
@@ -485,14 +485,14 @@ static COMMANDS: [Explanation; 23] = [
         number: 85,
         name: "NoExpectation",
         status: 2,
-        when: "With --all-right and --flash: what a slot is to hold at the end is not told.",
+        when: "With --all-right and --flash: what a slot should hold at the end is not given.",
         remedy: "Give --expect-primary and --expect-secondary: a version, a digest, or none.",
     },
     Explanation {
         number: 86,
         name: "InUse",
         status: 2,
-        when: "The folder that is to be written is there, and not an empty folder.",
+        when: "The folder to be written exists, and is not an empty folder.",
         remedy: "Give a path where nothing is, or an empty folder. Nothing was touched.",
     },
     Explanation {
@@ -513,7 +513,7 @@ static COMMANDS: [Explanation; 23] = [
         number: 89,
         name: "NeverSwaps",
         status: 2,
-        when: "A verdict is asked of a layout with which MCUboot swaps nothing: --max-sectors is below --primary.",
+        when: "A verdict is asked for a layout with which MCUboot never swaps: --max-sectors is below --primary.",
         remedy: "Raise CONFIG_BOOT_MAX_IMG_SECTORS, and --max-sectors with it, or make the slots smaller.",
     },
     Explanation {
@@ -541,7 +541,7 @@ static COMMANDS: [Explanation; 23] = [
         number: 93,
         name: "NoCase",
         status: 1,
-        when: "The boot has no operation of that number, or this no such case.",
+        when: "The boot has no operation of that number, or that operation has no such case.",
         remedy: "Look for its cases with tears --all, and give the same --schedule and --erase.",
     },
 ];

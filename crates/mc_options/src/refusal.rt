@@ -93,7 +93,7 @@ pub enum Refusal {
     /// The file that is to be written is one that is read.
     #[error("E75 SameFile")]
     SameFile,
-    /// The folder that is to be written is there, and not an empty folder.
+    /// The folder to be written exists, and is not an empty folder.
     #[error("E86 InUse")]
     InUse,
     /// Of all numbers of cuts: flashes that 16 cuts leave may lead to more.
@@ -108,13 +108,13 @@ pub enum Refusal {
     /// The text says nothing that a boot can read of a torn operation.
     #[error("E92 NoReading")]
     NoReading,
-    /// The boot has no operation of that number, or this no such case.
+    /// The boot has no operation of that number, or that operation has no such case.
     #[error("E93 NoCase")]
     NoCase,
     /// A file of a layout has a line that is none of its options.
     #[error("E88 LayoutFile")]
     LayoutFile,
-    /// A file cannot be opened or made.
+    /// A file cannot be opened or created.
     #[error("E71 Open")]
     Open,
     /// The help, or the output of a command that is no page of rows, cannot be written.

@@ -174,7 +174,7 @@ static CREATION: [Word; 8] = [
     Word {
         name: "OUTFILE",
         required: true,
-        help: "The image; made, or emptied first; - for standard output",
+        help: "The image; created, or emptied first; - for standard output",
         ..PLACE
     },
     Word {
@@ -211,7 +211,7 @@ static CREATION: [Word; 8] = [
     Word {
         name: "sha",
         takes: Takes::OneOf("N", &["256", "auto"]),
-        help: "256, which each image has (or auto, the same)",
+        help: "256, the one hash here (auto is the same)",
         ..FLAG
     },
 ];
@@ -251,14 +251,14 @@ static SLOT: [Word; 7] = [
         name: "erased-val",
         short: Some('R'),
         takes: Takes::OneOf("V", &["0xff", "0xFF", "255"]),
-        help: "0xff, which an erased byte of each flash here holds",
+        help: "0xff, as erased bytes are in every flash here",
         ..FLAG
     },
     Word {
         name: "endian",
         short: Some('e'),
         takes: Takes::OneOf("E", &["little"]),
-        help: "little, as each image here is",
+        help: "little, as in every image here",
         ..FLAG
     },
 ];
@@ -428,14 +428,14 @@ static SECTORS: [Word; 3] = [
     SCHEDULE_IF_ANY,
     Word {
         name: "end",
-        help: "Show what the last boot leaves, and not the flash at the last cut",
+        help: "Show the flash after the last boot, not at the last cut",
         ..FLAG
     },
     Word {
         name: "words",
         takes: Takes::OneOf("W", &["plain", "all"]),
         default: Some("plain"),
-        help: "Words for what is neither blank nor of the start",
+        help: "all: name trailer sectors and unfinished copies too, in place of *",
         ..FLAG
     },
 ];
@@ -463,7 +463,7 @@ static DUMP: [Word; 3] = [
 /// As many rows as a page can have.
 const ALL: Word = Word {
     name: "all",
-    help: "All rows, in place of --limit 4294967295",
+    help: "All rows, as --limit 4294967295",
     ..FLAG
 };
 
@@ -558,12 +558,12 @@ const EXPECT_SECONDARY: Word = Word {
 static VERDICT: [Word; 4] = [
     Word {
         name: "all-boot",
-        help: "Refuse, after the counts, where a result is not boot",
+        help: "Refuse, after the counts, if a result is not boot",
         ..FLAG
     },
     Word {
         name: "all-right",
-        help: "Refuse, after the counts, where the images are not those of a swap",
+        help: "Refuse, after the counts, if the images are not those of a swap",
         ..FLAG
     },
     EXPECT_PRIMARY,
@@ -580,17 +580,17 @@ static TEARS: [Word; 9] = [
         name: "erase",
         takes: Takes::OneOf("HOW", &["gentle", "rough"]),
         default: Some("gentle"),
-        help: "A torn erase only sets bits, or it may leave any bytes in its sector",
+        help: "gentle: a torn erase only sets bits; rough: it may leave any bytes in its sector",
         ..FLAG
     },
     Word {
         name: "all",
-        help: "Print each case, also one that ends as a cut before or after it does",
+        help: "Print every case, even one that ends like a cut before or after it",
         ..FLAG
     },
     Word {
         name: "all-right",
-        help: "Refuse, after the lines, where a case does not end right, or is busy",
+        help: "Refuse, after the lines, if a case does not end right, or is busy",
         ..FLAG
     },
     EXPECT_PRIMARY,
@@ -603,7 +603,7 @@ static TEARS: [Word; 9] = [
     Word {
         name: "reading",
         takes: Takes::Value("R"),
-        help: "What is read there, as magic=good,image-ok=bad",
+        help: "What the next boot reads there, as magic=good,image-ok=bad",
         ..FLAG
     },
     Word {
@@ -624,19 +624,19 @@ static VECTORS: [Word; 5] = [
     },
     Word {
         name: "torn",
-        help: "Also where power is lost within an operation, as tears has it",
+        help: "Also lose power within operations, as tears does",
         ..FLAG
     },
     Word {
         name: "erase",
         takes: Takes::OneOf("HOW", &["gentle", "rough"]),
-        help: "With --torn: a torn erase only sets bits, or may leave any bytes in its sector [default: gentle]",
+        help: "With --torn, as tears --erase [default: gentle]",
         ..FLAG
     },
     Word {
         name: "dir",
         takes: Takes::Value("DIR"),
-        help: "Write the table and the flashes into this folder; made, or empty",
+        help: "Write the table and the flashes into this folder, which is new or empty",
         ..FLAG
     },
     Word {
@@ -727,16 +727,16 @@ Example:
     app.bin app.img";
 
 const AFTER_LAYOUT: &str = "\
-The sizes of a trailer and of the largest image, header and TLV area included; then the first byte of
-the first and last status entry and of each field, as trace names them; then, for cuts between write
-calls and between write units, the operations of a test swap of the largest images, and a bound for
-any boot; and how often that swap erases one sector at most, of those of an image and of the trailer:
+Prints the sizes of a trailer and of the largest image, header and TLV area included; the first byte
+of the first and last status entry and of each field, named as in trace; for cuts between write calls
+and between write units, the operations of a test swap of the largest images, and a bound for any
+boot; and how often that swap erases one sector at most, of an image's and of the trailer's:
   image-bytes 512
   primary 984 swap-info
   call swap-ops 30
   primary erases 2
-With the times of the flash also how long that swap takes, and the revert of such images, which no boot
-takes longer than, in microseconds.";
+With the times of the flash, also how many microseconds that swap takes, and the revert of such
+images: no boot takes longer.";
 
 const AFTER_TRACE: &str = "\
 Each boot begins with a line `boot` with its number, counted from 0, and its type. Each operation that
@@ -744,7 +744,7 @@ happens has a line, with the number that a cut counts:
   0 erase primary 3
   1 write primary 984 swap-info 02ffffffffffffff
   6 copy primary 0 to primary 256 length 128
-`cut before` shows the operation at which power fails, and ` refused` one that meets bytes that are not
+`cut before` marks the operation before which power fails, ` refused` one that meets bytes that are not
 erased. Six lines with the outcome of the last boot come at the end. --from and --to leave out
 operations of each boot, and nothing else.";
 
@@ -754,65 +754,65 @@ sector N of the primary or of the secondary held at the start (the first such), 
 something else:
   primary a0 - * *
   secondary b0 - -
-With --words all there is `t` in place of `*` where that sector is the trailer's, and `aN~` or
-`bN~` where it begins as sector N did and is blank then: a copy that is not done.";
+With --words all, `t` replaces `*` where that sector is the trailer's, and `aN~` or `bN~` where it
+begins as sector N did and is blank from there on: an unfinished copy.";
 
 const AFTER_PICTURE: &str = "\
-One HTML file with no script, for any browser: first what all schedules of at most 16 cuts come to and
-how many of them are right; then for each boot a row for each operation, with the sectors before it, what
-a cut there comes to and whether that is right; the outcome last. Right is a boot with both images where
-they belong; from a flash, with those that are expected, or any. No more than 20,000 operations are drawn: of longer
-boots --from and --to say which.
+Prints one HTML file with no script, for any browser: first how all schedules of at most 16 cuts end
+and how many of them end right; then for each boot a row for each operation, with the sectors before it,
+how a cut there ends and whether that is right; the outcome last. Right is a boot with both images where
+they belong; from a flash, with the expected ones, or any. At most 20,000 operations are drawn: of
+longer boots --from and --to say which.
 Example:
   mcsim picture [LAYOUT] [SOURCE] --schedule 9.4 > swap.html";
 
 const AFTER_TEARS: &str = "\
-What if power is lost within an operation? Of the boot after the schedule: how many operations it
-has, and how many cases; then a line for each case that ends otherwise than a cut before or after
-its operation does:
+What if power is lost within an operation? Prints how many operations the boot after the schedule
+has, and how many cases; then a line for each case that ends unlike a cut before or after its
+operation:
   5 magic=good,image-ok=bad boot none 0 1.0.0+0/80 2.0.0+0/80 none busy
-The number of the operation; what the next boot reads where it may have changed something; how that
-boot ends, as in a row of explore; and whether the flash that it leaves says a swap is under way
-(busy): where no boot goes on with it, the next download, which erases the secondary, may leave the
-device without an image. `data`: no field of a trailer changes; entry: a step of the swap is noted. Whatever
-bytes the operation leaves, the next boot reads of the trailers' fields what one of these cases says, or
-what a cut leaves.
-With --at, --reading and --out the flash of that case is written, from which every command goes on.
+Its fields are the number of the operation; what the next boot reads where that may have changed
+something; how that boot ends, as in a row of explore; and whether the flash that it leaves says that
+a swap is under way (busy). If no boot goes on with that swap, the next download, which erases the
+secondary, may leave the device without an image. `data`: no field of a trailer changes; `entry`: a
+step of the swap is noted. Whatever bytes the operation leaves, the next boot reads the trailers'
+fields as one of these cases says, or as a cut leaves them.
+--at, --reading and --out write the flash of a case, from which every command goes on.
 Right is as for census, and not busy.
 Example:
   mcsim tears [LAYOUT] [SOURCE] --erase rough --all-right";
 
 const AFTER_VECTORS: &str = "\
-Most schedules leave a flash that a shorter one leaves too. This lists each distinct flash once, with the
-first schedule that leaves it (the shortest, and of those the first), so that a boot loader of your own can
-be tried on all of them: scripts/conform does that. The table has tabs between its fields:
+Most schedules leave a flash that a shorter one leaves too. This lists each distinct flash once, with
+the first of the shortest schedules that leave it, so that you can try a boot loader of your own on all
+of them: scripts/conform does that. The fields of the table are separated by tabs:
   schedule flash result type ops primary secondary next left
 flash and left are digests: of the flash at the last cut, and of the one that the boot from there leaves.
 A digest is the SHA-256 of the SHA-256s of the sectors, the primary's first.
-With --dir: cases.tsv, and flash/DIGEST.bin for each of them, both slots, the primary first. With --patches
-start.bin, and flash/DIGEST.patch: a line for each sector that is not what it was in start.bin:
+--dir writes cases.tsv, and flash/DIGEST.bin for each flash, both slots, the primary first; with --patches
+start.bin, and flash/DIGEST.patch, a line for each sector that is not what it was in start.bin:
   SLOT SECTOR blank, SLOT SECTOR SLOT SECTOR (what that one held in start.bin), or SLOT SECTOR HEX
-Then: how many flashes, and whether no number of cuts leaves another (all yes).
-With --torn power is also lost within an operation: 5~magic=good,image-ok=bad.0 is a loss within operation 5
-of the first boot, of which the next one reads that, and a cut before operation 0 of that one. Each case of
-tears counts as a loss, so that more than one or two of them on a real board are very many flashes.
+Then comes how many flashes there are, and whether no number of cuts leaves another (all yes).
+With --torn power is also lost within operations: 5~magic=good,image-ok=bad.0 is a loss within operation
+5 of the first boot, of which the next one reads that, and a cut before operation 0 of the next one. Each
+case of tears is a loss of its own: more than one or two losses on a real board leave very many flashes.
 Example:
   mcsim vectors [LAYOUT] [SOURCE] --cuts all --dir cases --patches";
 
 const AFTER_INSPECT: &str = "\
-Lines: a verdict on the next boot, or what it needs; the trailers, and what they ask for, as type has
-them; hint where the layout or the dump does not fit: a magic elsewhere, numbers by which the first
+Prints a verdict on the next boot, or what it needs; the trailers, and what they ask for, as type
+does; a hint where the layout or the dump does not fit: a magic elsewhere, numbers by which the first
 status entry that is written would be the first of all, slots in the wrong order, an image that begins
 one sector up; the image of each slot, blank, or none and why; what lies in each sector, as sectors
---words all has it, but with runs as a2..a116 and -x3: aN and bN are the sectors of the known images,
-where both are given; the first operation of the boot from there, and its outcome; and what all
-schedules of at most 16 cuts from there come to, as census has it.";
+--words all does, but with runs as a2..a116 and -x3: aN and bN are the sectors of the known images, if
+both are given; the first operation of the boot from there, and its outcome; and how all schedules of
+at most 16 cuts from there end, as census does.";
 
 const AFTER_LOCATE: &str = "\
-Both known images are wanted. After which cuts of a swap of them does the dump occur? Lines: which
-swap (test, perm, or revert, which takes the test back), the first schedule that leaves the dump, or
-else the one whose flash differs from it in the fewest sectors, how many differ, and which; and
-whether no number of cuts leaves a nearer one (all yes), or 16 cuts are as far as was looked:
+After which cuts of a swap of the two known images does the dump occur? Both are needed. Prints which
+swap (test, perm, or revert, which undoes the test), the first schedule that leaves the dump, or else
+the one whose flash differs from it in the fewest sectors, how many differ, and which; and whether no
+number of cuts leaves a nearer one (all yes), or the search ended at 16 cuts:
   swap test
   schedule 9.4
   differs 0
@@ -833,20 +833,20 @@ With a verdict the rows are counted once more; see mcsim survey --help.";
 
 const AFTER_SURVEY: &str = "\
 Seven lines: how many rows the page of explore would have, how many of them with each RESULT (boot,
-none, panic, fault), the most operations of a last boot, and next CURSOR or end, as the page.
-Where something is expected of the slots, two lines more: how many rows boot with the expected
-images, and the first that does not. --all-right expects of two images the named one in the primary
+none, panic, fault), the most operations of a last boot, and next CURSOR or end, as on the page.
+If something is expected of the slots, two more lines: how many rows boot with the expected images,
+and the first that does not. --all-right expects of two images the named one in the primary
 at the end and the other in the secondary. A survey of a part of the rows gives no verdict (E77).
 With --rounds 2 the rows are those of campaign, each counted by how its second round ends, but with
 the result of the first where that does not end in a boot. --all-right expects a test that does not
-confirm itself to be taken back: each image where it was at the start.";
+confirm itself to be reverted: each image where it was at the start.";
 
 const AFTER_CENSUS: &str = "\
 Seven lines: how many schedules of at most K power cuts can occur, how many of them have each RESULT
 (boot, none, panic, fault), the most operations of a last boot, and the first schedule whose result is
-not boot, or none. They are not listed, so that even K of 16 takes some hundredths of a second and a
-few megabytes, with the grain unit too; two rounds by units take a second or so.
-Where something is expected of the slots, two lines more: how many schedules boot with the expected
+not boot, or none. They are not listed, so even K of 16 takes some hundredths of a second and a few
+megabytes, with the grain unit too; two rounds by units take about a second.
+If something is expected of the slots, two more lines: how many schedules boot with the expected
 images, and the first that does not. --all-right expects of two images the named one in the primary
 at the end and the other in the secondary; that takes a second census.
 Last come the shortest schedule whose result is not boot and, where something is expected, the shortest
@@ -858,26 +858,26 @@ const AFTER_CAMPAIGN: &str = "\
 A row is: CAMPAIGN RESULT TYPE OPS RESULT TYPE OPS PRIMARY SECONDARY NEXT
   2.4 boot test 18 boot perm 19 1.0.0+0/80 2.0.0+0/80 none
 Two rounds, each power-on with its cuts and one whole boot: here the first round has no cut, and in the
-second power fails after 4 operations of its first boot. RESULT TYPE OPS stand for the boots that end the
-rounds; what lies in the slots, and the next type, for the end. Between the rounds the image in the
-primary confirms itself with --confirm, else not.
+second power fails after 4 operations of its first boot. Each RESULT TYPE OPS is of the boot that ends a
+round; the slots and the next type are those at the end. With --confirm the image in the primary
+confirms itself between the rounds.
 Rows come in this order: -, 1.0, 1.0,1.0, .., 1.0,2.0, .., 1.1, .., 2.0, 2.0,2.0, ..
 With a verdict the rows are counted once more; see mcsim survey --help, --rounds 2.";
 
 const AFTER_LIFE: &str = "\
-Events, a line each; blank lines, and what comes behind a #, tell none. At the start the power is off:
+Events, one a line; blank lines, and what follows a #, are left out. At the start the power is off:
   boot [CUTS]              power-on, cut as a schedule says, and then left alone
   cut N                    power-on, cut after N operations
   tear N READING           power-on, lost within operation N, of which the next boot reads this: see tears --all
 While an image runs:
-  download FILE [BYTES]    it erases the secondary and writes the file, or stops after so many bytes
-  write FILE FROM COUNT    it writes so many bytes of the file from there on where they belong, and erases nothing
+  download FILE [BYTES]    it erases the secondary and writes the file, or stops after BYTES of it
+  write FILE FROM COUNT    it writes COUNT bytes of the file, from FROM on, where they belong, and erases nothing
   request test|perm        it writes the secondary's magic, and for perm image-ok
   store FILE               the secondary's bytes are those of the file
   erase N                  it erases a sector of the secondary
   confirm                  it confirms itself
-  mark BYTES               a confirmation is torn: up to 8 bytes, as 01ff, stand at image-ok
-Numbers may be hexadecimal, as 0x200; a FILE with spaces in it stands in double quotes.
+  mark BYTES               a confirmation is torn: it leaves up to 8 bytes, as 01ff, at image-ok
+Numbers may be hexadecimal, as 0x200; a FILE with spaces in it goes in double quotes.
 A line for each event: its number, its words, for a boot RESULT TYPE OPS, then the primary's image, trial
 or settled, the secondary's image, and the type of the next boot:
   3 boot 9.4 boot test 5 2.0.0+0/80 trial 1.0.0+0/80 revert
@@ -1030,7 +1030,7 @@ static FLASHES: [Subcommand; 6] = [
     Subcommand {
         name: "tears",
         aliases: &[],
-        about: "Show what power that fails within an operation leads to, case by case",
+        about: "Show case by case what a power failure within an operation leads to",
         usage: Some("mcsim tears <LAYOUT> <SOURCE> [OPTIONS]"),
         after_help: Some(AFTER_TEARS),
         groups: &[Group::Layout, Group::Source, Group::Rules, Group::Tears],
@@ -1126,7 +1126,7 @@ static OTHERS: [Subcommand; 2] = [
     Subcommand {
         name: "life",
         aliases: &[],
-        about: "Tell a device's life event by event: downloads, requests, power cuts and boots",
+        about: "Replay a device's life event by event: downloads, requests, power cuts and boots",
         usage: Some("mcsim life <LAYOUT> <DEVICE> [SCRIPT] [OPTIONS]"),
         after_help: Some(AFTER_LIFE),
         groups: &[Group::Layout, Group::Delivery, Group::Rules, Group::Life],
@@ -1134,7 +1134,7 @@ static OTHERS: [Subcommand; 2] = [
     Subcommand {
         name: "explain",
         aliases: &[],
-        about: "Tell what a refusal means and what to do about it",
+        about: "Say what a refusal means and what to do about it",
         usage: None,
         after_help: None,
         groups: &[Group::Refusal],

@@ -100,7 +100,7 @@ $ help verify
 Check an image's structure...
 $ explain e71
 E71 Open, exit status 3
-A file cannot be opened or made.
+A file cannot be opened or created.
 Check the path and your rights to it.
 $ verify - < counted
 good 1.2.3+4 92 4dcc5778bca9c831b86de779361dfbc68a9740b5fcc3297188767c3aa8cba2e4

@@ -97,7 +97,7 @@ Give --slot-size.
 $ explain 40
 E40 NotErased, exit status 1
 A write met bytes that are not 0xff.
-In a life: request once behind a download. In a boot the result is fault.
+In a life: request once after a download. In a boot the result is fault.
 $ explain syntax
 E15 Syntax, exit status 2
 The version is not major[.minor[.revision[+build]]] in decimal without leading zeros.
