@@ -30,7 +30,7 @@ enum {
     MCSIM_NONE = 0,   /* two images, and no swap is asked for */
     MCSIM_TEST = 1,   /* two images, and the second is to be tried */
     MCSIM_PERM = 2,   /* two images, and the second is to stay */
-    MCSIM_REVERT = 3, /* two images, and the first is to come back after a test */
+    MCSIM_REVERT = 3, /* two images: the first is on trial, and the second, which it replaced, is to come back */
     MCSIM_FLASH = 4   /* a flash: the bytes of the primary slot, then those of the secondary */
 };
 
