@@ -2,6 +2,7 @@
 // What is asked: the fields, the files, and the link that holds the numbers.
 import { BOARDS, FIELDS, board_of } from "./boards.js";
 import { by_id, made } from "./dom.js";
+import { KINDS } from "./kinds.js";
 import { example, hold_only, keep } from "./program.js";
 import { cuts_of, schedule_text } from "./texts.js";
 
@@ -46,6 +47,7 @@ export function take_link(text) {
   const said = new URLSearchParams(text.replace(/^#/, ""));
   FIELDS.forEach((id, i) => (by_id(id).value = said.get(id) ?? BOARDS[0].numbers[i]));
   for (const id of OTHERS) by_id(id).value = said.get(id) ?? BEGIN[id] ?? "";
+  if (!KINDS[value_of("kind")]) by_id("kind").value = BEGIN.kind;
   document.querySelector(`[name=source][value=${said.get("source") === "flash" ? "flash" : "images"}]`).checked = true;
   reflect();
   return /^\d+(\.\d+){0,15}$/.test(said.get("cuts") ?? "") ? cuts_of(said.get("cuts")) : [];
@@ -57,6 +59,8 @@ function reflect() {
   by_id("of-images").hidden = of_flash;
   by_id("of-flash").hidden = !of_flash;
   by_id("board").value = String(board_of(FIELDS.map(value_of)));
+  const kind = KINDS[value_of("kind")];
+  for (const image of ["a", "b"]) by_id(`is-${image}`).textContent = kind[image];
 }
 
 function show_file(name) {
@@ -102,6 +106,7 @@ function accept_files(zone, filed, failed) {
 // Makes the form ready: `changed` is called when it asks something else, `filed` when a file came, `timed` when the times change.
 export function begin_form({ changed, filed, timed, failed }) {
   by_id("board").append(...BOARDS.map((board, i) => made("option", { value: i }, board.name)), made("option", { value: -1 }, "other numbers"));
+  by_id("kind").append(...Object.entries(KINDS).map(([kind, { asks }]) => made("option", { value: kind }, asks)));
   by_id("board").addEventListener("change", () => {
     BOARDS[value_of("board")]?.numbers.forEach((number, i) => (by_id(FIELDS[i]).value = number));
   });
