@@ -6,7 +6,7 @@ import { show_bytes, show_commands, show_outcome, show_refusal, show_trailers } 
 import { Facts } from "./facts.js";
 import { begin_form, link_of, setup, take_examples, take_link, times } from "./form.js";
 import { Refused, bytes_of } from "./program.js";
-import { fields_of, schedule_text } from "./texts.js";
+import { fields_of, is_link, schedule_text } from "./texts.js";
 import { show_counting, show_stopped, show_verdict, show_wanted } from "./verdict.js";
 
 const REST = 150; // milliseconds without a change before the maps are filled
@@ -175,6 +175,12 @@ function ask(cuts) {
   go(cuts);
 }
 
+// A link asks anew. Any other hash is a place to which the browser has gone, and leaves what is asked, and its address.
+function follow_hash() {
+  if (is_link(location.hash)) ask(take_link(location.hash));
+  else history.replaceState(null, "", link_of(state.cuts));
+}
+
 async function copy_link() {
   by_id("linked").textContent = (await copied(location.href)) ? "Copied." : "The address line has it.";
 }
@@ -196,7 +202,7 @@ async function begin() {
   begin_form({ changed: () => ask([]), filed: () => ask(state.cuts), timed: () => state.facts && show_layout(), failed });
   by_id("link").addEventListener("click", copy_link);
   by_id("inspect-box").addEventListener("toggle", () => state.facts && fill_soon(0));
-  addEventListener("hashchange", () => ask(take_link(location.hash)));
+  addEventListener("hashchange", follow_hash);
   follow_width();
   matchMedia("(prefers-color-scheme: dark)").addEventListener("change", redraw);
   const cuts = take_link(location.hash);

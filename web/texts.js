@@ -5,6 +5,9 @@ export const schedule_text = cuts => (cuts.length ? cuts.join(".") : "-");
 export const cuts_of = text => (text === "-" ? [] : text.split(".").map(Number));
 export const lines_of = text => text.split("\n").filter(line => line !== "");
 
+// Whether the part of an address after `#` is a link of this page, which holds fields; any other names a place in the page.
+export const is_link = hash => hash.includes("=");
+
 // The lines `name value` as an object.
 export function fields_of(text) {
   return Object.fromEntries(lines_of(text).map(line => {
