@@ -1,5 +1,6 @@
 "use strict";
 // What a schedule comes to: the outcome, the trailers, the bytes of a sector, and the command lines that say the same.
+import { command_lines } from "./commands.js";
 import { by_id, copied, made } from "./dom.js";
 import { fields_of, lines_of, schedule_text } from "./texts.js";
 
@@ -41,29 +42,6 @@ export function show_bytes(bytes, { slot, sector }, offset, when) {
   const lines = hex_lines(bytes, offset), more = lines.length - MOST_LINES;
   by_id("bytes-title").textContent = `Bytes of ${slot} sector ${sector}, ${when}`;
   by_id("bytes").textContent = lines.slice(0, MOST_LINES).join("\n") + (more > 0 ? `\n${more} more lines: save the flash to see them` : "");
-}
-
-// A word of a command line, for a shell.
-export const quoted = word => (/^[\w@%+=:,./-]+$/.test(word) ? word : `'${word.replaceAll("'", "'\\''")}'`);
-
-function command_line(command, pairs, names) {
-  const is_file = option => ["--image-a", "--image-b", "--flash"].includes(option);
-  const named = ([option, value]) => [option, is_file(option) ? names[value === "b" ? 1 : 0] : value];
-  return ["./mcsim", command, ...pairs.flatMap(named).filter(word => word !== undefined).map(quoted)].join(" ");
-}
-
-// The command lines that print what the page shows.
-export function command_lines(setup, cuts) {
-  const { numbers, source, rules, expected, bound, names } = setup, start = [...numbers, ...source, ...rules];
-  const at = [["--schedule", schedule_text(cuts)]];
-  const lines = [
-    ["What all come to", "census", [["--cuts", bound], ...expected]],
-    ["Each operation", "trace", at],
-    ["The sectors then", "sectors", [...at, ["--words", "all"]]],
-    ["The outcome, and the flash at the cut", "replay", [...at, ["--at-cut", "cut.flash"]]],
-    ["A page to send", "picture", at],
-  ];
-  return lines.map(([title, command, more]) => [title, command_line(command, [...start, ...more], names)]);
 }
 
 export function show_commands(setup, cuts) {

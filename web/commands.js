@@ -1,0 +1,26 @@
+"use strict";
+// The command lines of the program that print what the page shows.
+import { schedule_text } from "./texts.js";
+
+// A word of a command line, for a shell.
+export const quoted = word => (/^[\w@%+=:,./-]+$/.test(word) ? word : `'${word.replaceAll("'", "'\\''")}'`);
+
+function command_line(command, pairs, names) {
+  const is_file = option => ["--image-a", "--image-b", "--flash"].includes(option);
+  const named = ([option, value]) => [option, is_file(option) ? names[value === "b" ? 1 : 0] : value];
+  return ["./mcsim", command, ...pairs.flatMap(named).filter(word => word !== undefined).map(quoted)].join(" ");
+}
+
+// Each with a title. A picture of two images takes what is right from their kind, and has no --all-right.
+export function command_lines(setup, cuts) {
+  const { numbers, source, rules, expected, bound, names } = setup, start = [...numbers, ...source, ...rules];
+  const at = [["--schedule", schedule_text(cuts)]], slots_expected = expected.filter(([option]) => option.startsWith("--expect-"));
+  const lines = [
+    ["What all come to", "census", [["--cuts", bound], ...expected]],
+    ["Each operation", "trace", at],
+    ["The sectors then", "sectors", [...at, ["--words", "all"]]],
+    ["The outcome, and the flash at the cut", "replay", [...at, ["--at-cut", "cut.flash"]]],
+    ["A page to send", "picture", [...at, ...slots_expected]],
+  ];
+  return lines.map(([title, command, more]) => [title, command_line(command, [...start, ...more], names)]);
+}
