@@ -72,6 +72,15 @@ export class Facts {
     return named_slots(printed, start, KINDS[this.setup.kind]?.named);
   }
 
+  // The versions of two images that fit, by a boot that leaves them where they are.
+  async versions() {
+    const { numbers, source, kind, files } = this.setup;
+    if (kind === "flash") return {};
+    const idle = [["--kind", "none"], ...source.filter(([option]) => option !== "--kind"), ["--schedule", "-"]];
+    const { primary, secondary } = fields_of(await this.ask("replay", [...numbers, ...idle], files));
+    return { a: primary.split(" ")[0], b: secondary.split(" ")[0] };
+  }
+
   // The operations of the boot after the cuts, from one number up to another.
   async operations(cuts, from, to, signal) {
     const more = [["--schedule", schedule_text(cuts)], ["--from", String(from)], ["--to", String(to - 1)]];

@@ -5,7 +5,8 @@ import { by_id, copied, latest } from "./dom.js";
 import { show_bytes, show_commands, show_outcome, show_refusal, show_trailers } from "./end.js";
 import { Facts } from "./facts.js";
 import { begin_form, link_of, setup, take_examples, take_link, times } from "./form.js";
-import { Refused, bytes_of } from "./program.js";
+import { Refused, bytes_of, run } from "./program.js";
+import { right_text } from "./sentences.js";
 import { fields_of, is_link, schedule_text } from "./texts.js";
 import { show_counting, show_stopped, show_verdict, show_wanted } from "./verdict.js";
 
@@ -145,8 +146,8 @@ async function count(facts) {
     show_stopped(() => count(facts));
   });
   try {
-    const text = await facts.census(counting.signal);
-    if (!counting.signal.aborted) show_verdict(text, facts.setup.bound, go);
+    const [text, versions] = await Promise.all([facts.census(counting.signal), facts.versions()]);
+    if (!counting.signal.aborted) show_verdict(text, facts.setup.bound, right_text(facts.setup, versions), go);
   } catch (error) {
     if (!counting.signal.aborted) await failed(error);
   }
@@ -160,7 +161,7 @@ function ask(cuts) {
   state.chosen = null;
   state.cuts = cuts;
   history.replaceState(null, "", link_of(cuts));
-  by_id("right-means").textContent = asked.expected.length ? "a cut here ends with the right image" : "a cut here ends in a boot";
+  by_id("right-means").textContent = asked.expected.length ? `a cut here ends with ${right_text(asked)}` : "a cut here ends in a boot";
   by_id("refusal").hidden = true;
   by_id("shown").classList.add("old");
   by_id("program").hidden = !asked.ready;
@@ -179,6 +180,11 @@ function ask(cuts) {
 function follow_hash() {
   if (is_link(location.hash)) ask(take_link(location.hash));
   else history.replaceState(null, "", link_of(state.cuts));
+}
+
+// Says which version of the program answers.
+async function show_version() {
+  by_id("version").textContent = (await run(["--version"], [])).trim();
 }
 
 async function copy_link() {
@@ -208,6 +214,7 @@ async function begin() {
   const cuts = take_link(location.hash);
   await take_examples();
   ask(cuts);
+  await show_version().catch(failed);
 }
 
 begin().catch(failed);

@@ -1,37 +1,21 @@
 "use strict";
 // Says what all sequences of power cuts come to, as the census counts them.
 import { by_id, made } from "./dom.js";
-import { cuts_of, fields_of, grouped } from "./texts.js";
+import { counted, sentence_of } from "./sentences.js";
+import { cuts_of, fields_of } from "./texts.js";
 
-// The sentence of a census: whether all is well, and what to say.
-function sentence_of(counts, bound) {
-  const all = `Every sequence of at most ${bound} power cuts`, not_all = `Not every sequence of at most ${bound} power cuts`;
-  if (counts["first-not-boot"] !== "none") return { good: false, text: `${not_all} ends in a boot.`, first: counts["first-not-boot"] };
-  if (counts.right === undefined) return { good: true, text: `${all} ends in a boot.`, first: "none" };
-  if (counts["first-not-right"] === "none") return { good: true, text: `${all} ends with the right image.`, first: "none" };
-  return { good: false, text: `${not_all} ends with the right image.`, first: counts["first-not-right"] };
-}
-
-// The counts, those alone that say something.
-function counted(counts, good) {
-  const parts = [`${grouped(counts.schedules)} sequence${counts.schedules === "1" ? "" : "s"}`];
-  if (!good) parts.push(`${grouped(counts.boot)} boot`);
-  if (!good && counts.right !== undefined) parts.push(`${grouped(counts.right)} with the right image`);
-  for (const end of ["none", "panic", "fault"]) if (counts[end] !== "0") parts.push(`${grouped(counts[end])} end in ${end}`);
-  return `${parts.join(", ")}. A last boot makes at most ${grouped(counts["most-ops"])} operations.`;
-}
-
-export function show_verdict(text, bound, go) {
-  const counts = fields_of(text), { good, text: sentence, first } = sentence_of(counts, bound), box = by_id("verdict");
+export function show_verdict(text, bound, right, go) {
+  const counts = fields_of(text), { good, text: sentence, shortest } = sentence_of(counts, bound, right), box = by_id("verdict");
   const mark = made("i", { class: `swatch ${good ? "right" : "bad"}`, "aria-hidden": "true" }, good ? "✓" : "✗");
-  const words = made("details", {}, made("summary", {}, "As the program prints it"), made("pre", { id: "census", tabindex: 0 }, text));
+  const census = made("pre", { id: "census", tabindex: 0, role: "group", "aria-label": "The census" }, text);
+  const words = made("details", {}, made("summary", {}, "As the program prints it"), census);
   box.setAttribute("aria-busy", "false");
   box.className = `card ${good ? "good" : "not"}`;
   box.replaceChildren(made("h2", {}, mark, ` ${sentence}`), made("p", {}, counted(counts, good)));
-  if (first !== "none") {
-    const button = made("button", { type: "button", id: "first" }, first === "-" ? "no cut at all" : first);
-    button.addEventListener("click", () => go(cuts_of(first)));
-    box.append(made("p", {}, "The first that does not: ", button));
+  if (shortest !== "none") {
+    const button = made("button", { type: "button", id: "shortest" }, shortest === "-" ? "no cut at all" : shortest);
+    button.addEventListener("click", () => go(cuts_of(shortest)));
+    box.append(made("p", {}, "The shortest that does not: ", button));
   }
   box.append(words);
 }
