@@ -35,16 +35,17 @@ export class BootCard {
     this.view = null;
     this.heading = made("span");
     this.state = made("em");
-    this.near = made("button", { type: "button" }, "Zoom in");
-    this.far = made("button", { type: "button" }, "Zoom out");
+    const button = text => made("button", { type: "button", "aria-label": `${text}, power-on ${index + 1}` }, text);
+    this.near = button("Zoom in");
+    this.far = button("Zoom out");
     this.span = made("span", { class: "span" });
     this.zoom = made("p", { class: "row zoom" }, this.near, this.far, this.span);
     this.canvas = made("canvas", { "aria-hidden": "true" });
     this.slider = made("input", { type: "range", min: 0, "aria-label": `Power-on ${index + 1}: where power fails` });
     this.line = made("p");
     this.slots = made("div", { class: "slots" });
-    this.save = made("button", { type: "button" }, "Save this flash");
-    this.whole = made("button", { type: "button" }, "Let it run");
+    this.save = button("Save this flash");
+    this.whole = button("Let it run");
     this.element = made("section", { class: "card boot" }, made("h2", {}, this.heading, this.state), this.zoom, this.canvas, this.slider,
       made("div", { class: "line" }, this.line, this.whole, this.save), this.slots);
     this.listen();

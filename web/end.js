@@ -48,7 +48,7 @@ export function show_commands(setup, cuts) {
   by_id("commands").replaceChildren(...command_lines(setup, cuts).map(([title, line]) => {
     const button = made("button", { type: "button", "aria-label": `Copy: ${title}` }, "Copy");
     button.addEventListener("click", async () => (button.textContent = (await copied(line)) ? "Copied" : "Select it"));
-    return made("li", {}, made("span", {}, title), made("code", { tabindex: 0 }, line), button);
+    return made("li", {}, made("span", {}, title), made("code", { tabindex: 0, role: "group", "aria-label": title }, line), button);
   }));
 }
 

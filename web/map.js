@@ -86,8 +86,8 @@ class Drawing {
     this.fills = {
       a: this.colour("a"), b: this.colour("b"), blank: this.colour("blank"),
       other: stripes("other", "other-line"), trailer: stripes("trailer", "trailer-line"),
-      "a half": stripes("a", "half-line"), "b half": stripes("b", "half-line"),
-      right: this.colour("right"), wrong: stripes("wrong", "wrong-line"), bad: stripes("bad", "bad-line"), mixed: stripes("trailer", "ink"),
+      "a half": stripes("a", "a-line"), "b half": stripes("b", "b-line"),
+      right: this.colour("right"), wrong: stripes("wrong", "wrong-line"), bad: stripes("bad", "bad-line"), mixed: stripes("trailer", "trailer-line"),
     };
   }
 
@@ -113,7 +113,7 @@ class Drawing {
       const left = this.at.x(from), right = Math.max(this.at.x(to), left + (kind === "right" ? 0 : LEAST));
       this.pen.fillStyle = this.fills[kind];
       this.pen.fillRect(left, 0, right - left, ENDS - 1);
-      if (right - left >= 12) this.text(MARKS[kind], (left + right) / 2, ENDS / 2, kind === "mixed" ? "ink" : `${kind}-text`);
+      if (right - left >= 12) this.text(MARKS[kind], (left + right) / 2, ENDS / 2, kind === "mixed" ? "trailer-text" : `${kind}-text`);
     }
   }
 
@@ -145,7 +145,7 @@ class Drawing {
       this.pen.fillStyle = this.fills[kind];
       this.pen.fillRect(left, top[slot] + begin * high, right - left - apart, (end - begin) * high - apart);
       if (apart && right - left >= 24 && kind !== "blank" && !kind.endsWith("half")) {
-        this.text(words[begin], (left + right) / 2, top[slot] + (begin + 0.5) * high, kind === "b" ? "b-text" : "a-text");
+        this.text(words[begin], (left + right) / 2, top[slot] + (begin + 0.5) * high, `${kind}-text`);
       }
     }
   }
