@@ -1,0 +1,293 @@
+"""The cases of the page: each opens it for a start, does what somebody does there, and compares what is shown."""
+import base64
+import importlib.machinery
+import json
+import pathlib
+import re
+import time
+
+from browsing.browser import PATIENCE
+from browsing.shown import PHONE
+from browsing.starts import BOARD, FIELDS, FINE, NAMED, SMALL, Start, bytes_text, image_of, text_of
+from common import ROOT
+
+SLIDES = 20
+# What the text of a kind of swap says of the image that is to run at the end.
+RUNS_AT_THE_END = re.compile(r"\b([ab]) (?:is tried once|is to stay|comes back|runs on)\b")
+WHOLE_BOUND = "Every sequence of at most 16 power cuts"
+
+
+def images():
+    return [image_of(1, 400, 1), image_of(2, 300, 2)]
+
+
+def small(page):
+    start = Start(page.library, SMALL, images())
+    page.case("small", start, [9, 4])
+    page.compare_map("small", start, [9, 4])
+    hover(page, start, [9, 4], 0, 12)
+    skip(page, start, [9, 12])
+    stop(page, start)
+    hurry(page, start)
+    keys(page, start)
+    save(page, start)
+    many_cuts(page, start)
+    phone(page)
+    drop(page)
+
+
+def hover(page, start, cuts, index, number):
+    """What the map says of an operation under the pointer, and a click that cuts there."""
+    count = int(start.outcome(cuts[:index])["ops"])
+    page.browser.say(f"document.querySelectorAll('canvas')[{index}].scrollIntoView()")
+    box = page.browser.say(f"(box => [box.left, box.top, box.width])(document.querySelectorAll('canvas')[{index}].getBoundingClientRect())")
+    x, y = box[0] + 74 + (box[2] - 74) * (number + 0.5) / count, box[1] + 50
+    page.browser.move_to(x, y)
+    upto = [*cuts[:index], number]
+    row = start.say("explore", "--cuts", str(index + 1), "--after", text_of([*upto[:-1], number - 1]), "--limit", "1").splitlines()[0]
+    operation = [line for line in start.say("trace", "--schedule", text_of(upto), "--from", str(number), "--to", str(number)).splitlines()
+                 if line.startswith("cut before ")][-1]
+    page.same("small under the pointer", page.text("#tip"), f"{operation[11:]}\na cut before it: {row.split(' ', 1)[1]}")
+    page.browser.click(x, y)
+    page.await_done(text_of(upto))
+    page.compare("small after a click", start, upto)
+
+
+def skip(page, start, cuts):
+    """The link that skips the form leaves what is asked."""
+    page.set_field("bound", "5")
+    page.await_done("-")
+    page.go_to(start.link(cuts) + "&bound=5")
+    page.await_done(text_of(cuts))
+    page.browser.say("document.querySelector('.skip').click()")
+    page.browser.wait("document.activeElement.id === 'result' && location.hash.includes('=')")
+    page.same("small bound after the skip", page.browser.say("document.getElementById('bound').value"), "5")
+    page.same("small schedule after the skip", page.browser.say("document.body.dataset.done"), text_of(cuts))
+    page.same("small link after the skip", f"cuts={text_of(cuts)}" in page.browser.say("location.hash"), True)
+    page.set_field("bound", "16")
+    page.await_done("-")
+
+
+def stop(page, start):
+    """A count that is stopped, and made after all."""
+    ask = """(bound => {{ bound.value = '{}'; bound.dispatchEvent(new Event('change', {{ bubbles: true }})); {}; }})(document.getElementById('bound'))"""
+    page.browser.say(ask.format(3, "document.querySelector('#verdict button').click()"))
+    page.same("small count stopped", page.text("#verdict h2"), "The sequences of power cuts are not counted.")
+    page.browser.say("document.querySelector('#verdict button').click()")
+    page.await_count()
+    page.same("small count made after all", page.text("#census"), start.say("census", "--cuts", "3", *start.expected))
+    page.set_field("bound", "16")
+    page.await_count()
+    page.await_done("-")
+
+
+def hurry(page, start):
+    """Keys that come faster than answers: none is lost."""
+    page.browser.say("document.querySelector('#boots input').focus()")
+    page.browser.key("Home", 36)
+    page.await_done("0")
+    for _ in range(8):
+        page.browser.key("ArrowRight", 39)
+    page.await_done("8")
+    page.compare("small in a hurry", start, [8])
+
+
+def keys(page, start):
+    """The keyboard alone: the end of the slider, a sector by arrows, and the times of the layout."""
+    page.browser.say("document.querySelector('#boots input').focus()")
+    page.browser.key("End", 35)
+    page.await_done("-")
+    page.compare("small by End", start, [])
+    page.browser.key("Home", 36)
+    page.await_done("0")
+    page.compare("small by Home", start, [0])
+    page.browser.say("document.querySelectorAll('#boots .sectors')[1].focus()")
+    for _ in range(2):
+        page.browser.key("ArrowRight", 39)
+    size = start.numbers[0]
+    page.browser.wait("document.getElementById('bytes-title').textContent === 'Bytes of secondary sector 1, when power fails at power-on 1'")
+    flash = start.flash([0])
+    page.same("small bytes by keys", page.text("#bytes"), bytes_text(flash[(start.numbers[4] + 1) * size:(start.numbers[4] + 2) * size], size))
+    page.set_field("erase-us", "85000")
+    page.set_field("write-us", "41")
+    wanted = page.library.run(["layout", *start.layout, "--erase-us", "85000", "--write-us", "41"])[1].decode()
+    page.browser.wait("document.getElementById('layout').textContent.includes('swap-us')")
+    page.same("small layout", page.text("#layout"), wanted)
+
+
+def save(page, start):
+    """The flash as a file."""
+    folder = pathlib.Path(page.folder.name)
+    page.browser.send("Browser.setDownloadBehavior", behavior="allow", downloadPath=str(folder))
+    page.browser.say("[...document.querySelectorAll('#boots button')].find(it => it.textContent === 'Save this flash').click()")
+    wanted, end = start.flash([0]), time.monotonic() + PATIENCE
+    path = folder / "flash-0.bin"
+    while time.monotonic() < end and not (path.exists() and path.stat().st_size == len(wanted)):
+        time.sleep(0.05)
+    page.same("small saved", path.exists() and path.read_bytes(), wanted)
+
+
+def many_cuts(page, start):
+    """As many cuts as a schedule may have: the last power-on cannot be cut."""
+    cuts = [0] * 16
+    page.go_to(start.link(cuts))
+    page.await_done(text_of(cuts))
+    page.compare("small with 16 cuts", start, cuts)
+    page.same("small last slider", page.browser.say("[...document.querySelectorAll('#boots input')].map(it => it.disabled)"), [False] * 16 + [True])
+    page.browser.say("document.querySelectorAll('.line button')[0].click()")
+    page.await_done("-")
+    page.same("small let it run", page.browser.say("document.getElementById('boots').children.length"), 1)
+
+
+def phone(page):
+    """On a phone the verdict is seen first."""
+    page.browser.size(*PHONE)
+    bottom = page.browser.say("document.querySelector('#verdict h2').getBoundingClientRect().bottom + scrollY")
+    page.same("small verdict is seen on a phone", bottom < PHONE[1], True)
+    page.browser.size(1400, 1000)
+
+
+def drop(page):
+    """Two images that are dropped at once."""
+    files = [image_of(3, 200, 3), image_of(4, 210, 4)]
+    say = "".join(f"dropped.items.add(new File([Uint8Array.from({list(data)})], '{name} of us.bin'));" for name, data in zip("ab", files))
+    page.browser.say(f"""(dropped => {{ {say} document.querySelector('[data-file=a]').dispatchEvent(
+        new DragEvent('drop', {{ dataTransfer: dropped, bubbles: true, cancelable: true }})); }})(new DataTransfer())""")
+    page.browser.wait("document.getElementById('outcome').textContent.includes('4.0.0+0')")
+    page.await_done("-")
+    page.compare("small dropped", Start(page.library, SMALL, files), [])
+
+
+def kinds(page):
+    """What the page says of each kind of swap, against what comes of it: which image is to run at the end, and which is on trial."""
+    for kind in NAMED:
+        start = Start(page.library, SMALL, images(), kind=kind)
+        page.open(start)
+        outcome, versions = start.outcome(), {"1.0.0+0": "a", "2.0.0+0": "b"}
+        in_slots = {slot: outcome[slot].split()[0] for slot in ("primary", "secondary")}
+        asks = page.browser.say("document.getElementById('kind').selectedOptions[0].textContent")
+        page.same(f"{kind} runs at the end", RUNS_AT_THE_END.findall(asks), [versions[in_slots["primary"]]])
+        page.same(f"{kind} is on trial", page.text("#is-a").startswith("image on trial,"), "table revert" in start.say_of_flash("type", []).splitlines())
+        ends = " and ".join(f"{versions[version]} ({version}) in the {slot}" for slot, version in in_slots.items())
+        page.same(f"{kind} in a sentence", page.text("#verdict h2").split(" ", 1)[1], f"{WHOLE_BOUND} ends with {ends}.")
+        page.same(f"{kind} in the legend", page.text("#right-means"), "a cut here ends with " + re.sub(r" \([^)]*\)", "", ends))
+        page.compare(kind, start, [])
+        if int(outcome["ops"]):
+            page.compare_map(kind, start, [])
+
+
+def like(page):
+    """Images that differ in their first and last sectors alone: what stays the same has the name of its place."""
+    start = Start(page.library, FINE, [image_of(1, 400, None), image_of(2, 400, None)])
+    page.case("like", start, [31])
+    page.open(start)
+    page.compare("like, whole", start, [])
+
+
+def board(page):
+    start = Start(page.library, BOARD, [image_of(1, 300000, 1), image_of(2, 300000, 2)])
+    page.case("board", start, [701, 300])
+    slide(page, "board", start, [701, 300], 0)
+
+
+def unit(page):
+    start = Start(page.library, BOARD, [image_of(1, 300000, 1), image_of(2, 300000, 2)], grain="unit")
+    page.case("unit", start, [100000])
+    slide(page, "unit", start, [100000], 0)
+    for _ in range(4):
+        page.browser.say("document.querySelector('.zoom button').click()")
+        page.await_done(text_of([100000 + SLIDES]))
+    page.compare("unit near", start, [100000 + SLIDES])
+    page.photograph("unit-near")
+    revert = Start(page.library, SMALL, images(), kind="revert", grain="unit")
+    page.case("forgotten", revert, [4])
+
+
+def slide(page, name, start, cuts, index):
+    """Moves a slider by keys, and measures from the press to what is drawn; each step is compared."""
+    slider = f"document.querySelectorAll('#boots input')[{index}]"
+    page.browser.say(f"{slider}.focus()")
+    page.browser.say("""window.slides = []; window.pressed = 0;
+        addEventListener('keydown', () => (window.pressed = performance.now()), true);
+        new MutationObserver(() => document.body.dataset.shown &&
+            requestAnimationFrame(() => requestAnimationFrame(() => window.slides.push(performance.now() - window.pressed))))
+            .observe(document.body, { attributes: true, attributeFilter: ['data-shown'] }); 0""")
+    for step in range(1, SLIDES + 1):
+        now = [*cuts[:index], cuts[index] + step]
+        page.browser.key("ArrowRight", 39)
+        page.browser.wait(f"document.body.dataset.shown === '{text_of(now)}' && window.slides.length === {step}")
+    page.await_done(text_of(now))
+    times = sorted(page.browser.say("window.slides"))
+    print(f"{name}: {SLIDES} slides, from key to drawn: median {times[len(times) // 2]:.0f} ms, longest {times[-1]:.0f} ms", flush=True)
+    page.compare(f"{name} after slides", start, now)
+
+
+def dump(page):
+    start = Start(page.library, SMALL, images())
+    flash = bytearray(start.flash([9]))
+    flash[4 * 256 + 100] ^= 1
+    expected = ("--expect-primary", "2.0.0", "--expect-secondary", "1.0.0")
+    bad = Start(page.library, SMALL, [bytes(flash)], kind="flash", expected=expected)
+    page.case("dump", bad, [3])
+    shortest = re.search(r"^shortest-not-boot (\S+)$", bad.say("census", "--cuts", "16", *bad.expected), re.M)[1]
+    page.same("dump has a shortest that does not boot", page.text("#shortest"), "no cut at all" if shortest == "-" else shortest)
+    page.browser.say("document.getElementById('shortest').click()")
+    page.await_done(shortest)
+    page.compare("dump at the shortest that does not boot", bad, [] if shortest == "-" else [int(cut) for cut in shortest.split(".")])
+    page.photograph("dump-shortest")
+    judged = [("bricked", bytes(flash), expected, "No sequence of at most 16 power cuts boots: the primary holds no valid image."),
+              ("good", start.flash([9]), expected, f"{WHOLE_BOUND} ends with 2.0.0 in the primary and 1.0.0 in the secondary."),
+              ("other", start.flash([9]), ("--expect-secondary", "none"),
+               "All sequences of at most 16 power cuts boot, but none ends with no valid image in the secondary."),
+              ("free", start.flash([9]), (), f"{WHOLE_BOUND} boots.")]
+    for name, data, asked, sentence in judged:
+        case = Start(page.library, SMALL, [data], kind="flash", expected=asked)
+        page.open(case)
+        page.same(f"dump {name} in a sentence", page.text("#verdict h2").split(" ", 1)[1], sentence)
+        page.compare(f"dump {name}", case, [])
+
+
+def refusals(page):
+    start = Start(page.library, SMALL, images())
+    page.open(start)
+    replay = ["--verbose", "replay"]
+    for name, value, code in (("sector", "300", "E31"), ("unit", "16", "E30"), ("primary", "9", "E33"), ("chunk", "100", "E32"), ("sector", "-5", None)):
+        before = page.browser.say(f"document.getElementById('{name}').value")
+        page.set_field(name, value)
+        page.browser.wait("document.body.dataset.done === 'refused'")
+        numbers = [value if field == name else number for field, number in zip(FIELDS, start.numbers)]
+        layout = [f"--{field}={number}" for field, number in zip(FIELDS, numbers)]
+        page.compare_refusal(f"{name} {value}", [*replay, *layout, *start.source, *start.rules, "--schedule", "-"], start.files, code)
+        if code == "E33":
+            page.photograph("refused")
+        page.set_field(name, before)
+        page.await_done("-")
+    for name, data, code in (("torn", image_of(2, 300, 2)[:-1], "E8"), ("large", image_of(2, 700, 2), "E50")):
+        page.browser.choose_file("#file-b", page.file(f"{name}.bin", data))
+        page.browser.wait("document.body.dataset.done === 'refused'")
+        page.compare_refusal(name, [*replay, *start.layout, *start.source, *start.rules, "--schedule", "-"], [start.files[0], data], code)
+        page.browser.choose_file("#file-b", page.file("b of us.bin", start.files[1]))
+        page.await_done("-")
+    page.compare("after refusals", start, [])
+
+
+def lines(page):
+    """The library in a file alone: the command lines by which the program, C and Python are compared, with status, output and refusal."""
+    start = Start(page.library, SMALL, images())
+    page.open(start)
+    bindings = importlib.machinery.SourceFileLoader("bindings", str(ROOT / "scripts/test/bindings")).load_module()
+    sources = [["--kind", kind, "--image-a", "a", "--image-b", "b"] for kind in bindings.KINDS]
+    script = bindings.SCRIPT.encode()
+    answers(page, "of images", [*start.files, script], bindings.command_lines() + bindings.boot_lines(sources))
+    answers(page, "of a flash", [start.flash([9]), start.files[1], script], bindings.boot_lines([["--flash", "a"]]))
+
+
+def answers(page, name, files, asked):
+    kept = [page.browser.say(f"import('server.js').then(it => it.keep(Uint8Array.from(atob('{base64.b64encode(data).decode()}'), "
+                             "letter => letter.charCodeAt(0))))") for data in files]
+    for words in asked:
+        question = json.dumps({"words": words, "files": kept})
+        found = page.browser.say(f"import('server.js').then(it => it.ask('run', {question}))")
+        status, out, err, _ = page.library.run(words, *files)
+        page.same(f"{name} {' '.join(words)}", found, {"status": status, "out": out.decode(), "err": err.decode()})
+    print(f"{len(asked)} command lines {name}", flush=True)

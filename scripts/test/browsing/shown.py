@@ -1,0 +1,214 @@
+"""The page in a browser: opens it for a start, waits until it is whole, and compares what it shows with what the library says."""
+import json
+import pathlib
+import re
+import shlex
+import subprocess
+import sys
+import tempfile
+
+from browsing.browser import PATIENCE, Browser
+from browsing.starts import bytes_text, text_of
+from common import ROOT
+
+DRAWN = "new Promise(done => setTimeout(() => requestAnimationFrame(() => requestAnimationFrame(() => done())), 100))"
+VIEWS = {"wide": (1400, False), "narrow": (400, False), "dark": (1400, True)}
+PHONE = (390, 844)
+
+
+class Tally:
+    """How much was compared, what of it differs, and which parts did not come to their end."""
+
+    def __init__(self):
+        self.compared, self.differ, self.failed = 0, 0, []
+
+    def same(self, what, one, other):
+        self.compared += 1
+        if one != other:
+            self.differ += 1
+            print(f"DIFFER {what}:\n  page     {one!r}\n  expected {other!r}", flush=True)
+
+
+def words_of(labels):
+    """The words of a slot, from the labels of its pieces: each with its place and how many sectors it takes."""
+    words = []
+    for label, kind, count in labels:
+        run = re.fullmatch(r"([ab])(\d+)–(\d+)", label)
+        if run:
+            words += [f"{run[1]}{number}" for number in range(int(run[2]), int(run[3]) + 1)]
+        else:
+            words += [label.split("×")[0] or {"piece blank": "-"}.get(kind, "?")] * count
+    return words
+
+
+class Page:
+    """A server and a browser of its own, or a browser with the page as a file. `same` is the tally's."""
+
+    def __init__(self, library, tally, out=None, file=None):
+        self.library, self.same, self.out = library, tally.same, out
+        self.server, self.address, self.browser = None, file and file.resolve().as_uri(), None
+        self.folder = tempfile.TemporaryDirectory(prefix="test-page-", ignore_cleanup_errors=True)
+        if not file:
+            self.server = subprocess.Popen([sys.executable, ROOT / "scripts/serve"], stdout=subprocess.PIPE, text=True, start_new_session=True)
+            self.address = self.server.stdout.readline().strip()
+
+    def __enter__(self):
+        return self
+
+    def __exit__(self, *_):
+        if self.browser:
+            self.browser.close()
+        if self.server:
+            self.server.terminate()
+            self.server.wait(PATIENCE)
+            self.server.stdout.close()
+        self.folder.cleanup()
+
+    def file(self, name, data):
+        path = pathlib.Path(self.folder.name) / name
+        path.write_bytes(data)
+        return path
+
+    def open(self, start, cuts=()):
+        """Opens the page anew, with the start's files, and waits until it is whole."""
+        self.browser = self.browser or Browser(pathlib.Path(self.folder.name) / "profile")
+        wait = self.browser.wait
+        self.browser.size(1400, 1000)
+        self.browser.send("Page.navigate", url="about:blank")
+        self.browser.send("Page.navigate", url=self.address + start.link())
+        flash = start.kind == "flash"
+        wait("document.getElementById('name-b')?.textContent.includes('bytes')" + (" && !document.getElementById('of-flash').hidden" if flash else ""))
+        if not flash:
+            self.await_done("-")
+        for place, data in zip(("flash",) if flash else ("a", "b"), start.files):
+            self.browser.choose_file(f"#file-{place}", self.file(f"{place} of us.bin", data))
+            wait(f"document.getElementById('name-{place}').textContent === '{place} of us.bin, {len(data):,} bytes'")
+            self.await_done("-")
+        if cuts:
+            self.go_to(start.link(cuts))
+        self.await_done(text_of(cuts))
+        self.await_count()
+
+    def go_to(self, link):
+        self.browser.say(f"location.hash = {json.dumps(link)}")
+
+    def set_field(self, name, value):
+        self.browser.say(f"(it => {{ it.value = {json.dumps(value)}; it.dispatchEvent(new Event('change', {{ bubbles: true }})); }})"
+                         f"(document.getElementById('{name}'))")
+
+    def await_done(self, schedule):
+        self.browser.wait(f"document.body.dataset.done === '{schedule}'")
+
+    def await_count(self):
+        """Waits until all sequences are counted, which may take longer than all else."""
+        self.browser.wait("!!document.getElementById('census')")
+
+    def text(self, selector):
+        return self.browser.say(f"document.querySelector({json.dumps(selector)}).textContent")
+
+    def case(self, name, start, cuts):
+        self.open(start, cuts)
+        self.compare(name, start, cuts)
+        self.photograph(name)
+
+    # What it shows of a schedule.
+
+    def compare(self, name, start, cuts):
+        """Compares each text that the page shows of a schedule."""
+        schedule = ["--schedule", text_of(cuts)]
+        self.await_count()
+        self.same(f"{name} census", self.text("#census"), start.say("census", "--cuts", "16", *start.expected))
+        self.same(f"{name} outcome", self.text("#outcome"), start.say("replay", *schedule))
+        self.same(f"{name} boots", self.browser.say("document.getElementById('boots').children.length"), len(cuts) + 1)
+        for index in range(len(cuts) + 1):
+            self.compare_boot(f"{name} power-on {index + 1}", start, cuts, index)
+        self.compare_end(name, start, cuts)
+        self.same(f"{name} has names for what has the focus", self.browser.nameless(), [])
+
+    def compare_boot(self, name, start, cuts, index):
+        card = f"#boots > :nth-child({index + 1})"
+        said = start.outcome(cuts[:index])
+        many = "" if said["ops"] == "1" else "s"
+        self.same(f"{name} heading", self.text(card + " h2 span"), f"Power-on {index + 1}: {said['type']}, {int(said['ops']):,} operation{many}")
+        if index < len(cuts):
+            trace = start.say("trace", "--schedule", text_of(cuts), "--from", str(cuts[index]), "--to", str(cuts[index])).splitlines()
+            cuts_before = [line[len("cut before "):] for line in trace if line.startswith("cut before ")]
+            self.same(f"{name} operation", self.text(card + " .line code"), cuts_before[index])
+            self.same(f"{name} slider says", self.browser.say(f"document.querySelector('{card} input').getAttribute('aria-valuetext')"), f"before {cuts_before[index]}")
+        most = max(start.numbers[4:])
+        for place, words in enumerate(start.sectors(cuts[:index + 1], end=index == len(cuts))):
+            labels = self.browser.say(f"[...document.querySelectorAll('{card} .sectors')[{place}].querySelectorAll('.piece')].map(it => "
+                                      f"[it.textContent, it.className.replace(/ (half|tiny)/g, ''), Math.round(parseFloat(it.style.width) * {most} / 100)])")
+            self.same(f"{name} slot {place}", words_of(labels), words)
+
+    def compare_end(self, name, start, cuts):
+        table = self.browser.say("[...document.querySelectorAll('#trailers tbody tr')].map(row => [...row.children].map(it => it.textContent))")
+        lines = [f"{slot} " + " ".join(f"{row[0]}={row[column]}" for row in table) for column, slot in ((1, "primary"), (2, "secondary"))]
+        printed = start.say_of_flash("type", cuts, "--profile", start.profile).splitlines()
+        self.same(f"{name} trailers", lines, printed[:2])
+        begins = "The boot goes on with the swap that was cut." if printed[2] == "resume yes" else f"The boot begins by the table of swap types: {printed[3][6:]}."
+        self.same(f"{name} how it begins", self.text("#trailers p"), begins)
+        self.browser.say("document.getElementById('inspect').textContent = ''; document.getElementById('inspect-box').open = true")
+        self.browser.wait("document.getElementById('inspect').textContent !== ''")
+        known = [] if start.kind == "flash" else ["--known-a", "b", "--known-b", "c"]
+        self.same(f"{name} inspection", self.text("#inspect"), start.say_of_flash("inspect", cuts, *start.rules, *known))
+        self.browser.say("document.getElementById('inspect-box').open = false")
+        size, primary = start.numbers[0], start.numbers[4]
+        shown = start.flash(cuts, end=not cuts)[(primary - 1) * size:primary * size]
+        self.same(f"{name} bytes", self.text("#bytes"), bytes_text(shown, (primary - 1) * size))
+        self.compare_commands(name, start, cuts)
+
+    def compare_commands(self, name, start, cuts):
+        names = {"a": "flash of us.bin" if start.kind == "flash" else "a of us.bin", "b": "b of us.bin"}
+        source = [names.get(word, word) for word in start.source]
+        schedule = ["--schedule", text_of(cuts)]
+        in_slots = start.expected if start.kind == "flash" else []
+        wanted = [["census", "--cuts", "16", *start.expected], ["trace", *schedule], ["sectors", *schedule, "--words", "all"],
+                  ["replay", *schedule, "--at-cut", "cut.flash"], ["picture", *schedule, *in_slots]]
+        shown = self.browser.say("[...document.querySelectorAll('#commands code')].map(it => it.textContent)")
+        self.same(f"{name} commands", [shlex.split(line) for line in shown],
+                  [["./mcsim", command, *start.layout, *source, *start.rules, *more] for command, *more in wanted])
+
+    def compare_refusal(self, name, words, files, code):
+        _, _, err, _ = self.library.run(words, *files)
+        lines = [line for line in err.decode().split("\n") if line]
+        shown = self.browser.say("[...document.querySelectorAll('#refusal > :not(pre)')].map(it => it.textContent)")
+        self.same(f"{name} refused", shown, lines)
+        explanation = self.browser.say("document.getElementById('explanation')?.textContent ?? null")
+        self.same(f"{name} explained", explanation, self.library.run(["explain", code])[1].decode() if code else None)
+        self.same(f"{name} hides the rest", self.browser.say("document.getElementById('shown').hidden"), True)
+        self.same(f"{name} has names for what has the focus", self.browser.nameless(), [])
+        if code:
+            self.same(f"{name} is {code}", lines[0].split()[1], code)
+
+    def compare_map(self, name, start, cuts):
+        """The map of the last power-on, column by column and sector by sector, and what a cut at each operation comes to."""
+        rows = [line for line in start.say("explore", "--cuts", str(len(cuts) + 1), "--after", text_of(cuts), "--limit", "64",
+                                           "--until", text_of([*cuts[:-1], cuts[-1] + 1]) if cuts else "99999").splitlines() if line[0].isdigit()]
+        read = """(places => { const canvas = [...document.querySelectorAll('canvas')].at(-1), pen = canvas.getContext('2d');
+            const style = getComputedStyle(document.documentElement);
+            const name = ([r, g, b]) => ['a', 'b', 'blank', 'right'].find(it => style.getPropertyValue('--' + it).trim() ===
+                '#' + [r, g, b].map(x => x.toString(16).padStart(2, '0')).join('')) ?? 'other';
+            const wide = canvas.clientWidth - 74;
+            return places.map(([share, y]) => name(pen.getImageData(Math.round(74 + wide * share + 3), y, 1, 1).data)); })"""
+        count, most = len(rows), sum(start.numbers[4:])
+        places = [[column / count, 3] for column in range(count)]
+        wanted = ["right" if row.split()[1] == "boot" else "other" for row in rows]
+        for column in range(count):
+            for words, top in zip(start.sectors([*cuts, column]), (36, 36 + start.numbers[4] * 17 + 4)):
+                for sector, word in enumerate(words):
+                    if "~" not in word:
+                        places.append([column / count, top + sector * 17 + 3])
+                        wanted.append({"-": "blank", "t": "other", "*": "other"}.get(word, word[0]))
+        self.same(f"{name} map of {count} operations and {most} sectors", self.browser.say(f"{read}({json.dumps(places)})"), wanted)
+
+    def photograph(self, name):
+        for view, (wide, dark) in VIEWS.items() if self.out else ():
+            self.browser.size(wide, 1000, dark)
+            high = self.browser.say(DRAWN.replace("done()", "done(document.documentElement.scrollHeight)"))
+            self.same(f"{name} {view} is not too wide", self.browser.say("document.documentElement.scrollWidth"), wide)
+            self.browser.size(wide, min(high, 6000), dark)
+            self.browser.say(DRAWN)
+            self.browser.photograph(self.out / f"{name}-{view}.png")
+        self.browser.size(1400, 1000)
+        self.browser.say(DRAWN)
