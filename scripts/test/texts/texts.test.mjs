@@ -1,0 +1,71 @@
+// How the program's texts are read, and what the page makes of links and command lines.
+import assert from "node:assert/strict";
+import test from "node:test";
+import { command_lines, quoted } from "../../../web/commands.js";
+import { class_of, cuts_of, fields_of, grouped, is_link, kind_of, last_operations, meaning_of, rows_of, schedule_text, slots_of } from "../../../web/texts.js";
+
+const NUMBERS = [["--sector", "256"]], RULES = [["--grain", "call"], ["--profile", "1"]];
+const OF_FLASH = { numbers: NUMBERS, rules: RULES, source: [["--flash", "a"]], expected: [["--expect-primary", "2.0.0"], ["--expect-secondary", "none"]],
+  bound: "16", names: ["a dump.bin"] };
+const OF_IMAGES = { ...OF_FLASH, source: [["--kind", "test"], ["--image-a", "a"], ["--image-b", "b"]], expected: [["--all-right"]], names: ["old.img", "new.img"] };
+const line_of = (setup, title) => Object.fromEntries(command_lines(setup, [9, 4]))[title];
+
+test("a hash without fields is no link", () => {
+  for (const hash of ["", "#", "#result", "#boots"]) assert.equal(is_link(hash), false);
+  assert.equal(is_link("#sector=256&cuts=9.4"), true);
+});
+
+test("schedules", () => {
+  for (const [text, cuts] of [["-", []], ["9", [9]], ["9.4", [9, 4]]]) {
+    assert.deepEqual(cuts_of(text), cuts);
+    assert.equal(schedule_text(cuts), text);
+  }
+});
+
+test("a picture to send has the expectations of the form", () => {
+  assert.equal(line_of(OF_FLASH, "A page to send"),
+    "./mcsim picture --sector 256 --flash 'a dump.bin' --grain call --profile 1 --schedule 9.4 --expect-primary 2.0.0 --expect-secondary none");
+});
+
+test("a picture of two images has what is right from their kind", () => {
+  assert.equal(line_of(OF_IMAGES, "A page to send"),
+    "./mcsim picture --sector 256 --kind test --image-a old.img --image-b new.img --grain call --profile 1 --schedule 9.4");
+  assert.match(line_of(OF_IMAGES, "What all come to"), / --cuts 16 --all-right$/);
+});
+
+test("words are quoted for a shell", () => {
+  assert.deepEqual(["a.img", "b of us", "it's", "$x"].map(quoted), ["a.img", "'b of us'", "'it'\\''s'", "'$x'"]);
+});
+
+test("lines of names and values", () => {
+  assert.deepEqual(fields_of("result boot\nprimary 2.0.0+0 80 ab\nend\n"), { result: "boot", primary: "2.0.0+0 80 ab", end: "" });
+  assert.deepEqual(slots_of("primary a0 -\nsecondary b0\n"), { primary: ["a0", "-"], secondary: ["b0"] });
+});
+
+test("operations of the last boot, with the sectors that they change and read", () => {
+  const trace = "boot 0 test\n0 erase primary 3\ncut before 1 write primary 968 entry 11 01\nboot 1 test\n0 copy primary 256 to secondary 512 length 128\n1 erase secondary 1\nresult boot\n";
+  assert.deepEqual(last_operations(trace, 256), [
+    { number: 0, text: "copy primary 256 to secondary 512 length 128", what: "copy", target: { slot: "secondary", sector: 2 }, source: { slot: "primary", sector: 1 } },
+    { number: 1, text: "erase secondary 1", what: "erase", target: { slot: "secondary", sector: 1 }, source: null }]);
+});
+
+test("rows by their last cut", () => {
+  assert.deepEqual([...rows_of("9.3 boot test 1\n9.4 none none 0\nnext mc1:x\n")], [[3, "boot test 1"], [4, "none none 0"]]);
+});
+
+test("kinds of counted rows", () => {
+  const kinds = [[{ rows: "3", boot: "3" }, "right"], [{ rows: "3", boot: "3", right: "3" }, "right"], [{ rows: "3", boot: "0", right: "0" }, "bad"],
+    [{ rows: "3", boot: "3", right: "0" }, "wrong"], [{ rows: "3", boot: "2", right: "2" }, "mixed"]];
+  for (const [counts, kind] of kinds) assert.equal(kind_of(counts), kind);
+});
+
+test("counts with commas", () => {
+  assert.deepEqual(["7", "1234", "1384617332780985", ">=340282366920938463463374607431768211455"].map(grouped),
+    ["7", "1,234", "1,384,617,332,780,985", "at least 340,282,366,920,938,463,463,374,607,431,768,211,455"]);
+});
+
+test("words of sectors", () => {
+  assert.equal(meaning_of("b0"), "what secondary sector 0 held at the start");
+  assert.equal(meaning_of("a12~"), "a copy of primary sector 12 that is not done");
+  assert.deepEqual(["-", "t", "*", "a0", "b1~"].map(class_of), ["blank", "trailer", "other", "a", "b half"]);
+});
