@@ -16,3 +16,10 @@ export const BOARDS = [
 export function board_of(texts) {
   return BOARDS.findIndex(board => board.numbers.every((number, i) => String(number) === texts[i]));
 }
+
+// The bytes of the largest image that can be swapped (docs/MODEL.md, "Layouts"), or undefined where these texts give none.
+export function image_bytes(texts) {
+  const [sector, unit, most, , primary, secondary] = texts.map(Number);
+  const trailers = Math.ceil((3 * most * unit + 48) / sector), sectors = Math.min(primary - 1 - trailers, secondary - trailers, most);
+  return sectors >= 1 && Number.isSafeInteger(sectors * sector) ? sectors * sector : undefined;
+}

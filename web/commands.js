@@ -11,6 +11,12 @@ function command_line(command, pairs, names) {
   return ["./mcsim", command, ...pairs.flatMap(named).filter(word => word !== undefined).map(quoted)].join(" ");
 }
 
+// How the dump at the end of a life is made; its files have the names a, b and script.
+function life_line(words) {
+  const named = words.map((word, i) => ({ out: "dump.bin", c: "script" })[word] ?? (words[i - 1] === "--image" ? "a" : word));
+  return ["The dump, of files a and b and a script", ["./mcsim", ...named.map(quoted)].join(" ")];
+}
+
 // Each with a title. A picture of two images takes what is right from their kind, and has no --all-right.
 export function command_lines(setup, cuts) {
   const { numbers, source, rules, expected, bound, names } = setup, start = [...numbers, ...source, ...rules];
@@ -22,5 +28,6 @@ export function command_lines(setup, cuts) {
     ["The outcome, and the flash at the cut", "replay", [...at, ["--at-cut", "cut.flash"]]],
     ["A page to send", "picture", [...at, ...slots_expected]],
   ];
-  return lines.map(([title, command, more]) => [title, command_line(command, [...start, ...more], names)]);
+  const said = lines.map(([title, command, more]) => [title, command_line(command, [...start, ...more], names)]);
+  return setup.life ? [life_line(setup.life), ...said] : said;
 }

@@ -44,12 +44,24 @@ export function show_bytes(bytes, { slot, sector }, offset, when) {
   by_id("bytes").textContent = lines.slice(0, MOST_LINES).join("\n") + (more > 0 ? `\n${more} more lines: save the flash to see them` : "");
 }
 
-export function show_commands(setup, cuts) {
-  by_id("commands").replaceChildren(...command_lines(setup, cuts).map(([title, line]) => {
+// What is made here, to be saved for these command lines.
+function made_here(things, save) {
+  const button = ({ name, bytes }) => {
+    const it = made("button", { type: "button" }, `Save ${name}`);
+    it.addEventListener("click", () => save(bytes, name));
+    return it;
+  };
+  return things.length ? [made("li", { class: "row" }, made("span", {}, "What is made here, for these commands:"), ...things.map(button))] : [];
+}
+
+// The command lines; `save` gives somebody what was made here as a file.
+export function show_commands(setup, cuts, save) {
+  const lines = command_lines(setup, cuts).map(([title, line]) => {
     const button = made("button", { type: "button", "aria-label": `Copy: ${title}` }, "Copy");
     button.addEventListener("click", async () => (button.textContent = (await copied(line)) ? "Copied" : "Select it"));
     return made("li", {}, made("span", {}, title), made("code", { tabindex: 0, role: "group", "aria-label": title }, line), button);
-  }));
+  });
+  by_id("commands").replaceChildren(...made_here(setup.made, save), ...lines);
 }
 
 // A refusal: what the program says, what `explain` says of its number, and a way back.

@@ -48,10 +48,6 @@ export class Facts {
     return this.ask("layout", [...this.setup.numbers, ...times], []);
   }
 
-  explain(number) {
-    return this.ask("explain", [[number]], []);
-  }
-
   census(signal) {
     return this.of_start("census", [["--cuts", this.setup.bound], ...this.setup.expected], signal);
   }

@@ -6,7 +6,7 @@ export class Lost extends Error {}
 
 const LIMIT = 2 ** 28; // bytes of all that is kept
 const SHORT_COUNT = 2 ** 12; // rows that are counted soon
-const LONG = ["census", "inspect", "locate"]; // commands that may take long
+const LONG = ["census", "inspect", "locate", "life"]; // commands that may take long
 const files = new Map(); // what is kept, by a name, that which was used last at the end
 let held = [], named = 0;
 
@@ -108,11 +108,11 @@ export function hold_only(names) {
   held = names;
 }
 
-// The answer to a question: `run`, a command line, or `flash`, the flash that a schedule leaves.
+// The answer to a question: `run`, a command line, `make`, one that makes a file, or `flash`, the flash that a schedule leaves.
 export async function ask(path, question, signal) {
   await library;
   signal?.throwIfAborted();
-  const lanes = path === "run" && may_take_long(question.words) ? long : short;
+  const lanes = question.words && may_take_long(question.words) ? long : short;
   const lane = lanes.reduce((best, it) => (it.load < best.load ? it : best));
   const { flash, ...said } = await lane.ask({ path, ...question, files: question.files.map(used) }, signal);
   return flash ? { ...said, digest: put(flash) } : said;
@@ -121,9 +121,4 @@ export async function ask(path, question, signal) {
 // Some of the bytes of a file that is kept.
 export async function bytes_of(name, from, to) {
   return used(name).slice(from, to);
-}
-
-// An image of examples/.
-export async function example(name) {
-  return bytes_in(name);
 }

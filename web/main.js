@@ -4,7 +4,8 @@ import { BootCard } from "./boot.js";
 import { by_id, copied, latest } from "./dom.js";
 import { show_bytes, show_commands, show_outcome, show_refusal, show_trailers } from "./end.js";
 import { Facts } from "./facts.js";
-import { begin_form, link_of, setup, take_examples, take_link, times } from "./form.js";
+import { begin_form, is_to_make, link_of, make_all, setup, take_link, times, wanted_texts } from "./form.js";
+import { strange_text } from "./link.js";
 import { Refused, bytes_of, run } from "./program.js";
 import { right_text } from "./sentences.js";
 import { fields_of, is_link, schedule_text } from "./texts.js";
@@ -12,7 +13,8 @@ import { show_counting, show_stopped, show_verdict, show_wanted } from "./verdic
 
 const REST = 150; // milliseconds without a change before the maps are filled
 const SAVED = 60000; // milliseconds in which a browser has saved a file
-const state = { facts: null, cuts: [], chosen: null, filling: new AbortController(), counting: new AbortController(), timer: 0 };
+const MOST_BYTES = 2 ** 26; // of a file
+const state = { facts: null, cuts: [], chosen: null, filling: new AbortController(), counting: new AbortController(), timer: 0, turn: 0 };
 const cards = [];
 
 const actions = {
@@ -26,15 +28,16 @@ const actions = {
   },
   save: async (cuts, end) => {
     try {
-      await state.facts.with_flash(cuts, end, digest => save(digest, `flash-${schedule_text(cuts)}${end ? "-end" : ""}.bin`));
+      const name = `flash-${schedule_text(cuts)}${end ? "-end" : ""}.bin`;
+      await state.facts.with_flash(cuts, end, async digest => save(await bytes_of(digest, 0, MOST_BYTES), name));
     } catch (error) {
       failed(error);
     }
   },
 };
 
-async function save(digest, name) {
-  const address = URL.createObjectURL(new Blob([await bytes_of(digest, 0, 2 ** 26)]));
+function save(bytes, name) {
+  const address = URL.createObjectURL(new Blob([bytes]));
   const link = Object.assign(document.createElement("a"), { href: address, download: name });
   link.click();
   setTimeout(() => URL.revokeObjectURL(address), SAVED);
@@ -49,7 +52,7 @@ function go(cuts) {
 async function failed(error) {
   if (error.name === "AbortError") return;
   const number = error instanceof Refused && /^mcsim: (E\d+) /.exec(error.message)?.[1], { facts } = state;
-  const explanation = number ? await facts.explain(number).catch(() => "") : "";
+  const explanation = number ? await run(["explain", number], []).catch(() => "") : "";
   if (facts !== state.facts) return;
   show_refusal(error.message, explanation, state.cuts.length ? () => ask([]) : null);
   by_id("shown").hidden = true;
@@ -79,7 +82,7 @@ const show = latest(async () => {
   clearTimeout(state.timer);
   if (!facts) return;
   document.body.dataset.shown = document.body.dataset.done = "";
-  show_commands(facts.setup, cuts);
+  show_commands(facts.setup, cuts, save);
   try {
     const trailers_asked = facts.trailers(cuts), boots = [...cuts, null].map((cut, i) => of_boot(facts, cuts.slice(0, i), cut, i));
     const [trailers, outcome, kind, ...reports] = await Promise.all([trailers_asked, facts.outcome(cuts), facts.kind(cuts), ...boots]);
@@ -110,7 +113,7 @@ function fill_soon(rest) {
 
 async function fill(signal) {
   const { cuts } = state;
-  history.replaceState(null, "", link_of(cuts));
+  put_link(false);
   await fill_bytes(signal);
   if (by_id("inspect-box").open) await fill_inspection();
   for (const card of cards.slice(0, cuts.length + 1)) await card.fill(signal);
@@ -153,33 +156,65 @@ async function count(facts) {
   }
 }
 
-// Begins anew with what the form asks.
-function ask(cuts) {
-  const asked = setup();
-  state.counting.abort();
-  state.facts = asked.ready ? new Facts(asked) : null;
-  state.chosen = null;
-  state.cuts = cuts;
-  history.replaceState(null, "", link_of(cuts));
-  by_id("right-means").textContent = asked.expected.length ? `a cut here ends with ${right_text(asked)}` : "a cut here ends in a boot";
-  by_id("refusal").hidden = true;
-  by_id("shown").classList.add("old");
-  by_id("program").hidden = !asked.ready;
-  if (!asked.ready) {
-    by_id("shown").hidden = true;
-    by_id("verdict").hidden = false;
-    show_wanted("Choose a dump of both slots, or drop it on its field.");
-    return;
-  }
-  show_layout();
-  count(state.facts);
-  go(cuts);
+// Puts the link of what is asked into the address: a new question is one more entry of the history, and its cuts change that entry.
+function put_link(is_new) {
+  const link = link_of(state.cuts);
+  if (link !== location.hash) history[is_new ? "pushState" : "replaceState"](null, "", link);
 }
 
-// A link asks anew. Any other hash is a place to which the browser has gone, and leaves what is asked, and its address.
-function follow_hash() {
-  if (is_link(location.hash)) ask(take_link(location.hash));
-  else history.replaceState(null, "", link_of(state.cuts));
+// Begins anew with what the form asks.
+async function ask(cuts, is_new = true) {
+  const turn = ++state.turn;
+  Object.assign(state, { facts: null, chosen: null, cuts });
+  state.counting.abort();
+  state.filling.abort();
+  document.body.dataset.shown = document.body.dataset.done = "";
+  by_id("refusal").hidden = true;
+  by_id("shown").classList.add("old");
+  put_link(is_new);
+  try {
+    if (is_to_make()) await make_all();
+    if (turn === state.turn) begin_answers(setup());
+  } catch (error) {
+    if (turn === state.turn) await failed(error);
+  }
+}
+
+// Asks the program, once all that it is asked about is there.
+function begin_answers(asked) {
+  by_id("right-means").textContent = asked.expected.length ? `a cut here ends with ${right_text(asked)}` : "a cut here ends in a boot";
+  if (!asked.ready) return want(wanted_texts().join(" "));
+  by_id("program").hidden = false;
+  state.facts = new Facts(asked);
+  show_layout();
+  count(state.facts);
+  go(state.cuts);
+}
+
+// A link asks anew, and is an entry of the history already. Any other hash is a place to which the browser has gone, and leaves what is
+// asked, and its address.
+async function follow_hash() {
+  if (!is_link(location.hash)) return put_link(false);
+  await follow(location.hash);
+}
+
+// Asks what a link says, unless it cannot be read.
+async function follow(link) {
+  const turn = ++state.turn, { cuts, strange } = await take_link(link);
+  if (turn !== state.turn) return;
+  if (strange.length) want(strange_text(strange));
+  else await ask(cuts, false);
+}
+
+// Says that something is to be given first.
+function want(text) {
+  state.counting.abort();
+  state.filling.abort();
+  state.facts = null;
+  by_id("shown").hidden = by_id("program").hidden = by_id("refusal").hidden = true;
+  by_id("verdict").hidden = false;
+  show_wanted(text);
+  document.body.dataset.done = document.body.dataset.shown = "wanted";
 }
 
 // Says which version of the program answers.
@@ -211,9 +246,7 @@ async function begin() {
   addEventListener("hashchange", follow_hash);
   follow_width();
   matchMedia("(prefers-color-scheme: dark)").addEventListener("change", redraw);
-  const cuts = take_link(location.hash);
-  await take_examples();
-  ask(cuts);
+  await follow(location.hash);
   await show_version().catch(failed);
 }
 

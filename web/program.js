@@ -1,8 +1,10 @@
 "use strict";
 // What the program says of command lines and schedules.
-import { ask } from "./server.js";
+import { ask, bytes_of } from "./server.js";
 
-export { Lost, bytes_of, example, hold_only, keep } from "./server.js";
+export { Lost, bytes_of, hold_only, keep } from "./server.js";
+
+const MOST_BYTES = 2 ** 26; // of a file
 
 // A command that the program refuses: its status, and what it says of it.
 export class Refused extends Error {
@@ -24,4 +26,11 @@ export async function flash(question, signal) {
   const { status, err, digest } = await ask("flash", question, signal);
   if (status) throw new Refused(status, err);
   return digest;
+}
+
+// What a command line prints, and the bytes of the file that it makes.
+export async function make(words, files, signal) {
+  const { status, out, err, digest } = await ask("make", { words: ["--verbose", ...words], files }, signal);
+  if (status) throw new Refused(status, err + out);
+  return { out, bytes: await bytes_of(digest, 0, MOST_BYTES, signal) };
 }

@@ -42,7 +42,7 @@ async function send_again(digests) {
   for (const digest of digests) await keep(held.get(digest));
 }
 
-// The answer to a question: `run`, a command line, or `flash`, the flash that a schedule leaves.
+// The answer to a question: `run`, a command line, `make`, one that makes a file, or `flash`, the flash that a schedule leaves.
 export async function ask(path, question, signal) {
   for (;;) {
     const answer = await send(path, JSON.stringify(question), signal);
@@ -59,9 +59,4 @@ export async function bytes_of(digest, from, to, signal) {
   if (answer.status === 409) throw new Lost("a file is no longer kept");
   if (!answer.ok) await fail_by(answer);
   return new Uint8Array(await answer.arrayBuffer());
-}
-
-// An image of examples/.
-export async function example(name) {
-  return (await fetch(name)).arrayBuffer();
 }

@@ -56,8 +56,8 @@ function with_room(library, room, work) {
   }
 }
 
-// A command line over files.
-function run(library, { words, files: [a = NOTHING, b = NOTHING, c = NOTHING] }) {
+// A command line over files: its status, texts, and the file that it makes.
+function call_line(library, { words, files: [a = NOTHING, b = NOTHING, c = NOTHING] }) {
   const line = encoder.encode(["mcsim", ...words].join("\0"));
   return with_room(library, ROOM, (call, room) => {
     const inputs = [line, a, b, c, NOTHING].flatMap(bytes => call.put(bytes));
@@ -66,8 +66,21 @@ function run(library, { words, files: [a = NOTHING, b = NOTHING, c = NOTHING] })
     const [out_size, err_size, file_size] = call.numbers(lengths, 3);
     const wanted = Math.max(out_size, file_size);
     if (wanted > room) return { wanted };
-    return { wanted, status, out: decoder.decode(call.bytes(out, out_size)), err: decoder.decode(call.bytes(err, Math.min(err_size, ROOM))) };
+    const texts = { out: decoder.decode(call.bytes(out, out_size)), err: decoder.decode(call.bytes(err, Math.min(err_size, ROOM))) };
+    return { wanted, status, ...texts, flash: call.bytes(file, file_size) };
   });
+}
+
+// What a command line prints.
+function run(library, question) {
+  const { flash: _, ...said } = call_line(library, question);
+  return said;
+}
+
+// The same, with the file that it makes.
+function make(library, question) {
+  const { flash: file, ...said } = call_line(library, question);
+  return said.status ? said : { ...said, flash: file };
 }
 
 // The flash that a schedule leaves, at its last cut or at the end.
@@ -90,7 +103,7 @@ onmessage = async ({ data }) => {
     return;
   }
   try {
-    const answer = (data.path === "run" ? run : flash)(await begun, data);
+    const answer = { run, make, flash }[data.path](await begun, data);
     postMessage(answer, answer.flash ? [answer.flash.buffer] : []);
   } catch (error) {
     setTimeout(() => { throw error; }); // so that the page is told, and ends this worker

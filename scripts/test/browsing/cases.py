@@ -1,5 +1,6 @@
 """The cases of the page: each opens it for a start, does what somebody does there, and compares what is shown."""
 import base64
+import hashlib
 import importlib.machinery
 import json
 import pathlib
@@ -269,6 +270,79 @@ def refusals(page):
         page.browser.choose_file("#file-b", page.file("b of us.bin", start.files[1]))
         page.await_done("-")
     page.compare("after refusals", start, [])
+
+
+def made_start(page, numbers, kind="test"):
+    """The start of the images that the page makes: the library makes the same of the page's payloads."""
+    sizes = dict(re.findall(r"[#&]([ab])=made\.(\d+)", page.browser.say("location.hash")))
+    images = []
+    for place, version in (("a", "1.0.0"), ("b", "2.0.0")):
+        payload = page.browser.say(f"import('./made.js').then(it => [...it.payload_of('{place}', {sizes[place]})])")
+        page.same(f"the payload of {place} has no zeros", (len(payload), min(payload) > 0), (int(sizes[place]), True))
+        status, _, _, image = page.library.run(["create", "--version", version, "--header-size", "32", "--pad-header", "a", "out"], bytes(payload))
+        page.same(f"{place} is made", status, 0)
+        images.append(image)
+    start = Start(page.library, numbers, images, kind=kind)
+    start.names = {"a": "a.img", "b": "b.img"}
+    return start
+
+
+def links(page):
+    """A link is the whole question: images that are made, files by their SHA-256, the history, and a reload."""
+    page.visit()
+    page.await_done("-")
+    start = made_start(page, SMALL)
+    page.compare("made", start, [])
+    first = page.browser.say("location.hash")
+    page.set_field("board", "3")
+    page.await_shown("-")
+    stm = made_start(page, (2048, 8, 256, 1024, 192, 192))
+    page.same("made for a board", page.text("#census"), stm.say("census", "--cuts", "16", "--all-right"))
+    page.browser.say("history.back()")
+    page.await_done("-")
+    page.same("the question before", page.browser.say("location.hash"), first)
+    page.compare("made, by the back button", start, [])
+    page.go_to(first + "&cuts=9.4")
+    page.await_done("9.4")
+    page.compare("made, cut", start, [9, 4])
+    page.go_to(first + "&kind=tset&cuts=9.x")
+    page.await_done("wanted")
+    page.same("a link that cannot be read", page.text("#verdict h2").split(".")[0], "This link cannot be read: kind, cuts")
+    files(page)
+    for place, text in (("a", "x"), ("b", "0"), ("b", "16777217")):
+        page.visit(first)
+        page.await_done("-")
+        page.set_field(f"payload-{place}", text)
+        page.await_done("refused")
+        page.same(f"{text} is no payload", page.text("#refusal h2"), f"The payload of {place} wants a number of bytes from 1 to 16,777,216, not {text}.")
+    page.set_field("payload-b", "441")
+    page.await_done("refused")
+    page.same("what does not fit is the program's to say", page.text("#refusal h2"), "mcsim: E50 DoesNotFit")
+
+
+def files(page):
+    """Files of a link: kept by the browser, missing, and another one."""
+    start = Start(page.library, SMALL, images())
+    page.open(start)
+    link, digest = page.browser.say("location.hash"), hashlib.sha256(start.files[1]).hexdigest()
+    page.same("a link has a file's name, size and SHA-256", f"&b=file.300.{digest}.b+of+us.bin" in link, True)
+    page.same("a link has no port and no token", page.browser.say("location.pathname.split('/')[1]") in link, False)
+    page.browser.send("Page.reload")
+    page.browser.wait("document.getElementById('name-b')?.textContent === 'b of us.bin, 300 bytes'")
+    page.await_done("-")
+    page.compare("after a reload", start, [])
+    page.go_to(link.replace(digest, "0" * 64))
+    page.await_done("wanted")
+    missing = "The link asks for b of us.bin (300 bytes, SHA-256 000000000000…) as b, and this browser does not have it: choose it."
+    page.same("a missing file is named", page.text("#verdict h2"), missing)
+    page.same("and at its field", page.text("#note-b"), missing)
+    page.browser.choose_file("#file-b", page.file("b of us.bin", start.files[1]))
+    page.await_done("-")
+    page.same("another file is said", page.text("#note-b").startswith("This is not the file of the link: that is b of us.bin, 300 bytes, SHA-256 0000"), True)
+    page.visit(link)
+    page.await_done("-")
+    page.same("the link's own file", page.browser.say("document.getElementById('note-b').hidden"), True)
+    page.compare("by the link's own file", start, [])
 
 
 def lines(page):

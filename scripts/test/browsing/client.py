@@ -50,6 +50,7 @@ class Client:
         self.serves_many(words, digests, wanted)
         self.ends_what_nobody_awaits()
         self.flashes(start, digests)
+        self.makes(start, digests)
         self.reads_documents()
         self.page.same("a command after all that", self.question("run", words=words, files=digests), (200, wanted))
 
@@ -128,6 +129,22 @@ class Client:
         """The documents that the page links to, as texts."""
         for path in ("README.md", "docs/MODEL.md"):
             self.page.same(path, self.request("GET", pathlib.Path(path).name), (200, (ROOT / path).read_bytes()))
+
+    def makes(self, start, digests):
+        """Files that command lines make are kept; no other command makes one."""
+        create, life = ["create", "--version", "3", "--header-size", "32", "--pad-header", "a", "out"], ["life", *start.layout, "--image", "a", "--out", "out", "c"]
+        script = b"boot\ndownload b\nrequest test\nboot 9.4\n"
+        digest = json.loads(self.request("POST", "file", script)[1])["digest"]
+        for name, words, files, data in (("create", create, digests[:1], start.files[:1]), ("life", life, [*digests, digest], [*start.files, script])):
+            _, out, _, file = self.page.library.run(words, *data)
+            wanted = {"status": 0, "out": out.decode(), "err": "", "digest": hashlib.sha256(file).hexdigest(), "size": len(file)}
+            self.page.same(f"{name} makes a file", self.question("make", words=words, files=files), (200, wanted))
+            self.page.same(f"the file of {name}", self.request("GET", f"file/{wanted['digest']}"), (200, file))
+        refused = self.question("make", words=[*create[:2], "x", *create[3:]], files=digests[:1])[1]
+        self.page.same("what is refused makes no file", (refused["status"], sorted(refused)), (2, ["err", "out", "status"]))
+        for name, words in (("replay", ["replay", "--out", "out"]), ("vectors", ["vectors", "--dir", "x"]), ("--flash", [*life, "--flash", "a"]),
+                            ("no words", []), ("a number", ["create", 1])):
+            self.page.same(f"{name} makes nothing", self.question("make", words=words, files=digests)[0], 400)
 
     def flashes(self, start, digests):
         said = {"numbers": list(SMALL), "kind": "test", "grain": "call", "profile": 1, "files": digests, "cuts": [9, 4], "end": False}

@@ -71,11 +71,8 @@ class Page:
 
     def open(self, start, cuts=()):
         """Opens the page anew, with the start's files, and waits until it is whole."""
-        self.browser = self.browser or Browser(pathlib.Path(self.folder.name) / "profile")
+        self.visit(start.link() + "&a=made.8&b=made.8")
         wait = self.browser.wait
-        self.browser.size(1400, 1000)
-        self.browser.send("Page.navigate", url="about:blank")
-        self.browser.send("Page.navigate", url=self.address + start.link())
         flash = start.kind == "flash"
         wait("document.getElementById('name-b')?.textContent.includes('bytes')" + (" && !document.getElementById('of-flash').hidden" if flash else ""))
         if not flash:
@@ -89,6 +86,13 @@ class Page:
         self.await_done(text_of(cuts))
         self.await_count()
 
+    def visit(self, link=""):
+        """Opens the page anew by a link alone."""
+        self.browser = self.browser or Browser(pathlib.Path(self.folder.name) / "profile")
+        self.browser.size(1400, 1000)
+        self.browser.send("Page.navigate", url="about:blank")
+        self.browser.send("Page.navigate", url=self.address + link)
+
     def go_to(self, link):
         self.browser.say(f"location.hash = {json.dumps(link)}")
 
@@ -97,7 +101,11 @@ class Page:
                          f"(document.getElementById('{name}'))")
 
     def await_done(self, schedule):
-        self.browser.wait(f"document.body.dataset.done === '{schedule}'")
+        self.browser.wait(f"document.body?.dataset.done === '{schedule}'")
+
+    def await_shown(self, schedule):
+        """Waits until a schedule is shown, and all are counted; its map may still be filled."""
+        self.browser.wait(f"document.body?.dataset.shown === '{schedule}' && !!document.getElementById('census')")
 
     def await_count(self):
         """Waits until all sequences are counted, which may take longer than all else."""
@@ -159,8 +167,7 @@ class Page:
         self.compare_commands(name, start, cuts)
 
     def compare_commands(self, name, start, cuts):
-        names = {"a": "flash of us.bin" if start.kind == "flash" else "a of us.bin", "b": "b of us.bin"}
-        source = [names.get(word, word) for word in start.source]
+        source = [start.names.get(word, word) for word in start.source]
         schedule = ["--schedule", text_of(cuts)]
         in_slots = start.expected if start.kind == "flash" else []
         wanted = [["census", "--cuts", "16", *start.expected], ["trace", *schedule], ["sectors", *schedule, "--words", "all"],

@@ -28,6 +28,7 @@ class Start:
         self.rules = ["--grain", grain, "--profile", profile]
         self.expected = list(expected) if kind == "flash" else ["--all-right"]
         self.at_start = None
+        self.names = {"a": "flash of us.bin" if kind == "flash" else "a of us.bin", "b": "b of us.bin"}
 
     def say(self, command, *more):
         """What the library prints for a command of this start."""

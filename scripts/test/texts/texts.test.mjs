@@ -33,6 +33,11 @@ test("a picture of two images has what is right from their kind", () => {
   assert.match(line_of(OF_IMAGES, "What all come to"), / --cuts 16 --all-right$/);
 });
 
+test("the dump at the end of a life is made first", () => {
+  const life = ["life", "--sector=256", "--image", "a", "--out", "out", "c"], lines = command_lines({ ...OF_FLASH, life }, []);
+  assert.deepEqual(lines[0], ["The dump, of files a and b and a script", "./mcsim life --sector=256 --image a --out dump.bin script"]);
+});
+
 test("words are quoted for a shell", () => {
   assert.deepEqual(["a.img", "b of us", "it's", "$x"].map(quoted), ["a.img", "'b of us'", "'it'\\''s'", "'$x'"]);
 });
