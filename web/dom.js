@@ -29,9 +29,8 @@ export function latest(work) {
   };
 }
 
-const tip = by_id("tip");
-
 export function show_tip(event, text) {
+  const tip = by_id("tip");
   tip.textContent = text;
   tip.hidden = false;
   const { innerWidth: wide, innerHeight: high } = window, box = tip.getBoundingClientRect();
@@ -40,7 +39,7 @@ export function show_tip(event, text) {
 }
 
 export function hide_tip() {
-  tip.hidden = true;
+  by_id("tip").hidden = true;
 }
 
 // Copies a text, and returns whether that went well.

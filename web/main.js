@@ -7,6 +7,7 @@ import { Facts } from "./facts.js";
 import { begin_form, is_to_make, link_of, make_all, setup, take_link, times, wanted_texts } from "./form.js";
 import { strange_text } from "./link.js";
 import { Refused, bytes_of, run } from "./program.js";
+import { show_scenes } from "./scenes.js";
 import { right_text } from "./sentences.js";
 import { fields_of, is_link, schedule_text } from "./texts.js";
 import { show_counting, show_stopped, show_verdict, show_wanted } from "./verdict.js";
@@ -241,6 +242,7 @@ function follow_width() {
 
 async function begin() {
   begin_form({ changed: () => ask([]), filed: () => ask(state.cuts), timed: () => state.facts && show_layout(), failed });
+  show_scenes();
   by_id("link").addEventListener("click", copy_link);
   by_id("inspect-box").addEventListener("toggle", () => state.facts && fill_soon(0));
   addEventListener("hashchange", follow_hash);

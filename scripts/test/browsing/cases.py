@@ -6,6 +6,7 @@ import json
 import pathlib
 import re
 import time
+import urllib.parse
 
 from browsing.browser import PATIENCE
 from browsing.shown import PHONE
@@ -343,6 +344,47 @@ def files(page):
     page.await_done("-")
     page.same("the link's own file", page.browser.say("document.getElementById('note-b').hidden"), True)
     page.compare("by the link's own file", start, [])
+
+
+def scenes(page):
+    """Each scene of the menu, by a click: it comes to what the library says of the same question."""
+    page.visit()
+    page.await_done("-")
+    count = page.browser.say("document.querySelectorAll('#scenes a').length")
+    marks = []
+    for number in range(count):
+        page.browser.say("document.querySelector('#scenes summary').click()")
+        title = page.browser.say(f"document.querySelectorAll('#scenes a')[{number}].textContent")
+        link = page.browser.say(f"document.querySelectorAll('#scenes a')[{number}].hash")
+        page.browser.say(f"document.body.dataset.shown = ''; document.querySelectorAll('#scenes a')[{number}].click()")
+        page.await_shown("-")
+        said = asked_by(link)
+        start = scene_start(page, said)
+        page.same(f"scene {title}", page.text("#census"), start.say("census", "--cuts", "16", *start.expected))
+        page.same(f"scene {title} outcome", page.text("#outcome"), start.say("replay", "--schedule", "-"))
+        marks.append(page.text("#verdict h2 .swatch"))
+        page.same(f"scene {title} leaves its link", asked_by(page.browser.say("location.hash")), asked_by(link))
+        page.same(f"scene {title} has names for what has the focus", page.browser.nameless(), [])
+        page.photograph(f"scene-{number}")
+    page.same("some scenes are right, others are not", set(marks), {"✓", "✗"})
+
+
+def asked_by(link):
+    """What a link says; a test swap is what is asked where it says nothing of a kind."""
+    return {"kind": "test", **dict(urllib.parse.parse_qsl(link[1:]))}
+
+
+def scene_start(page, said):
+    """The start of a scene's link; the flash at the end of a life is the library's."""
+    numbers, rules = [int(said[field]) for field in FIELDS], {"grain": said.get("grain", "call"), "profile": said.get("profile", "1")}
+    start = made_start(page, numbers, said["kind"])
+    if said.get("source") != "life":
+        return Start(page.library, numbers, start.files, kind=start.kind, **rules)
+    script = said["script"].encode()
+    status, out, _, flash = page.library.run(["life", *start.layout, "--image", "a", "--out", "out", "c"], *start.files, script)
+    page.same("a life as the library tells it", (0, page.text("#lived")), (status, out.decode()))
+    expected = [word for name in ("expect-primary", "expect-secondary") if name in said for word in (f"--{name}", said[name])]
+    return Start(page.library, numbers, [flash], kind="flash", expected=expected)
 
 
 def lines(page):
