@@ -1,6 +1,6 @@
 "use strict";
 // One power-on: its map, the slider of its cut, and the sectors at the cut or at its end.
-import { hide_tip, made, show_tip } from "./dom.js";
+import { made, tell_by_tip } from "./dom.js";
 import { draw_map, places } from "./map.js";
 import { draw_slots } from "./slots.js";
 
@@ -43,19 +43,19 @@ export class BootCard {
     this.canvas = made("canvas", { "aria-hidden": "true" });
     this.slider = made("input", { type: "range", min: 0, "aria-label": `Power-on ${index + 1}: where power fails` });
     this.line = made("p");
+    this.after = made("p", { class: "after" });
     this.slots = made("div", { class: "slots" });
     this.save = button("Save this flash");
     this.whole = button("Let it run");
     this.element = made("section", { class: "card boot" }, made("h2", {}, this.heading, this.state), this.zoom, this.canvas, this.slider,
-      made("div", { class: "line" }, this.line, this.whole, this.save), this.slots);
+      made("div", { class: "line" }, this.line, this.whole, this.save), this.after, this.slots);
     this.listen();
   }
 
   listen() {
     this.slider.addEventListener("input", () => this.cut_at(Number(this.slider.value)));
     this.canvas.addEventListener("click", event => this.cut_at(this.number_under(event)));
-    this.canvas.addEventListener("mousemove", event => show_tip(event, this.text_at(this.number_under(event))));
-    this.canvas.addEventListener("mouseleave", hide_tip);
+    tell_by_tip(this.canvas, event => this.text_at(this.number_under(event)));
     this.whole.addEventListener("click", () => this.cut_at(this.count));
     this.near.addEventListener("click", () => this.zoom_to((this.map.view.to - this.map.view.from) / STEP));
     this.far.addEventListener("click", () => this.zoom_to((this.map.view.to - this.map.view.from) * STEP));
@@ -137,8 +137,16 @@ export class BootCard {
     this.canvas.hidden = this.slider.hidden = !count;
   }
 
+  // What the map says of the cut, for whoever does not point at it.
+  show_after() {
+    const row = this.cut === null ? undefined : this.map.rows.get(this.cut);
+    this.after.textContent = row ? `A cut here: ${row}` : "";
+    this.after.hidden = !row;
+  }
+
   draw() {
     if (this.count) draw_map(this.canvas, this.map);
+    this.show_after();
     const { operation, index } = this, frames = [];
     if (operation) {
       frames.push({ ...operation.target, kind: "target" });
@@ -162,6 +170,7 @@ export class BootCard {
     }
     map.complete = true;
     draw_map(this.canvas, map);
+    this.show_after();
   }
 
   async sample(map, signal) {

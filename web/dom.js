@@ -42,6 +42,17 @@ export function hide_tip() {
   by_id("tip").hidden = true;
 }
 
+// Shows a tip for whoever points, touches or has the focus there: `text_of` says it of a pointer event, or of none.
+export function tell_by_tip(element, text_of) {
+  for (const kind of ["pointermove", "pointerdown"]) element.addEventListener(kind, event => show_tip(event, text_of(event)));
+  element.addEventListener("pointerleave", event => event.pointerType === "mouse" && hide_tip());
+  element.addEventListener("focus", () => {
+    const { left, bottom } = element.getBoundingClientRect();
+    if (element.matches(":focus-visible")) show_tip({ clientX: left, clientY: bottom - 12 }, text_of(null));
+  });
+  element.addEventListener("blur", hide_tip);
+}
+
 // Copies a text, and returns whether that went well.
 export async function copied(text) {
   try {

@@ -64,11 +64,22 @@ export function show_commands(setup, cuts, save) {
   by_id("commands").replaceChildren(...made_here(setup.made, save), ...lines);
 }
 
-// A refusal: what the program says, what `explain` says of its number, and a way back.
-export function show_refusal(said, explanation, without_cuts) {
+// Buttons that lead to the fields which a refusal is about.
+function ways_to(fields) {
+  const way = ({ id, name }) => {
+    const button = made("button", { type: "button" }, name);
+    button.addEventListener("click", () => by_id(id).focus());
+    return button;
+  };
+  return fields.length ? [made("p", { class: "row fields" }, "Look at", ...fields.map(way))] : [];
+}
+
+// A refusal: what the program says, what `explain` says of its number, the fields that it is about, and a way back.
+export function show_refusal(said, explanation, fields, without_cuts) {
   const box = by_id("refusal"), [first, ...reasons] = lines_of(said);
   const parts = [made("h2", {}, first), ...reasons.map(line => made("p", {}, line))];
-  if (explanation) parts.push(made("pre", { id: "explanation" }, explanation));
+  if (explanation) parts.push(made("pre", { id: "explanation", tabindex: 0, role: "group", "aria-label": "What this refusal means" }, explanation));
+  parts.push(...ways_to(fields));
   if (without_cuts) {
     const button = made("button", { type: "button" }, "Show it without cuts");
     button.addEventListener("click", without_cuts);

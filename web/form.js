@@ -118,6 +118,33 @@ export async function take_link(text) {
   return { cuts: cuts_of(read("cuts") ?? "-"), strange };
 }
 
+// What a field is called: its label, and the name of the file that lies there.
+function field_name(id) {
+  const own = [...by_id(id).closest("label").childNodes].filter(node => node.nodeType === Node.TEXT_NODE).map(node => node.textContent.trim()).join(" ");
+  const place = id.replace(/^(file|payload)-/, ""), file = id.startsWith("file-") && file_in(place)?.name;
+  if (id.startsWith("payload-")) return `${place}: ${own}`;
+  return file ? `${own}: ${file}` : own;
+}
+
+// Marks the fields that a refusal is about, which `describedby` tells; the others are no longer marked. Returns their names.
+export function mark_fields(ids, describedby) {
+  for (const field of document.querySelectorAll("#setup [aria-invalid]")) {
+    field.removeAttribute("aria-invalid");
+    field.removeAttribute("aria-describedby");
+  }
+  return ids.map(id => {
+    by_id(id).setAttribute("aria-invalid", "true");
+    by_id(id).setAttribute("aria-describedby", describedby);
+    if (by_id(id).closest("details")) by_id(id).closest("details").open = true;
+    return { id, name: field_name(id) };
+  });
+}
+
+// What a refusal may be about: which images are made, and the expectations.
+export function marked_question() {
+  return { made: Object.fromEntries(IMAGES.map(place => [place, is_made(place)])), expected: setup().expected };
+}
+
 // Makes the fields show what they say together.
 function reflect() {
   const of_flash = source() === "flash", of_life = source() === "life", kind = of_life ? OF_LIFE : KINDS[value_of("kind")];

@@ -1,16 +1,17 @@
 "use strict";
 // Puts the page together: what is asked, the cuts, and what the program says of them.
 import { BootCard } from "./boot.js";
-import { by_id, copied, latest } from "./dom.js";
+import { by_id, copied, hide_tip, latest } from "./dom.js";
 import { show_bytes, show_commands, show_outcome, show_refusal, show_trailers } from "./end.js";
 import { Facts } from "./facts.js";
-import { begin_form, is_to_make, link_of, make_all, setup, take_link, times, wanted_texts } from "./form.js";
+import { begin_form, is_to_make, link_of, make_all, mark_fields, marked_question, setup, take_link, times, wanted_texts } from "./form.js";
 import { strange_text } from "./link.js";
 import { Refused, bytes_of, run } from "./program.js";
+import { fields_of_refusal } from "./refusals.js";
 import { show_scenes } from "./scenes.js";
 import { right_text } from "./sentences.js";
 import { fields_of, is_link, schedule_text } from "./texts.js";
-import { show_counting, show_stopped, show_verdict, show_wanted } from "./verdict.js";
+import { show_counting, show_last_verdict, show_stopped, show_verdict, show_wanted } from "./verdict.js";
 
 const REST = 150; // milliseconds without a change before the maps are filled
 const SAVED = 60000; // milliseconds in which a browser has saved a file
@@ -49,16 +50,26 @@ function go(cuts) {
   show();
 }
 
-// Shows what failed; a refusal with its explanation.
+// Shows what failed; a refusal with its explanation and its fields. What the last question came to stays, and is said to be of that.
 async function failed(error) {
   if (error.name === "AbortError") return;
   const number = error instanceof Refused && /^mcsim: (E\d+) /.exec(error.message)?.[1], { facts } = state;
   const explanation = number ? await run(["explain", number], []).catch(() => "") : "";
   if (facts !== state.facts) return;
-  show_refusal(error.message, explanation, state.cuts.length ? () => ask([]) : null);
-  by_id("shown").hidden = true;
-  if (error instanceof Refused) by_id("verdict").hidden = true;
+  const fields = error.fields ?? (error instanceof Refused ? fields_of_refusal(error.message, marked_question(), error.of_life) : []);
+  show_refusal(error.message, explanation, mark_fields(fields, "refusal"), state.cuts.length ? () => ask([]) : null);
+  state.counting.abort();
+  by_id("program").hidden = true;
+  by_id("verdict").hidden = !show_last_verdict();
+  by_id("old-note").hidden = by_id("shown").hidden;
   document.body.dataset.done = document.body.dataset.shown = "refused";
+}
+
+// Says of what is shown whether it is of the last question, and takes nothing from there if so.
+function mark_old(is_old) {
+  by_id("shown").classList.toggle("old", is_old);
+  by_id("shown").inert = is_old;
+  if (!is_old) by_id("old-note").hidden = true;
 }
 
 // What the power-on after `before` shows, cut at a number or left alone.
@@ -90,7 +101,7 @@ const show = latest(async () => {
     if (facts !== state.facts) return;
     by_id("refusal").hidden = true;
     by_id("shown").hidden = false;
-    by_id("shown").classList.remove("old");
+    mark_old(false);
     place_cards(reports.length);
     reports.forEach((boot, i) => cards[i].update(facts, cuts.slice(0, i), cuts[i] ?? null, boot, cuts !== state.cuts));
     show_outcome(cuts, outcome, kind, facts.setup.expected.length);
@@ -170,8 +181,9 @@ async function ask(cuts, is_new = true) {
   state.counting.abort();
   state.filling.abort();
   document.body.dataset.shown = document.body.dataset.done = "";
-  by_id("refusal").hidden = true;
-  by_id("shown").classList.add("old");
+  by_id("refusal").hidden = by_id("old-note").hidden = true;
+  mark_fields([]);
+  mark_old(true);
   put_link(is_new);
   try {
     if (is_to_make()) await make_all();
@@ -212,7 +224,8 @@ function want(text) {
   state.counting.abort();
   state.filling.abort();
   state.facts = null;
-  by_id("shown").hidden = by_id("program").hidden = by_id("refusal").hidden = true;
+  by_id("shown").hidden = by_id("program").hidden = by_id("refusal").hidden = by_id("old-note").hidden = true;
+  mark_fields([]);
   by_id("verdict").hidden = false;
   show_wanted(text);
   document.body.dataset.done = document.body.dataset.shown = "wanted";
@@ -246,6 +259,7 @@ async function begin() {
   by_id("link").addEventListener("click", copy_link);
   by_id("inspect-box").addEventListener("toggle", () => state.facts && fill_soon(0));
   addEventListener("hashchange", follow_hash);
+  addEventListener("keydown", event => event.key === "Escape" && hide_tip());
   follow_width();
   matchMedia("(prefers-color-scheme: dark)").addEventListener("change", redraw);
   await follow(location.hash);

@@ -75,6 +75,7 @@ class Drawing {
     this.targets();
     this.operations();
     this.ends();
+    this.frames();
     if (!this.boot.complete) return;
     const copy = Object.assign(document.createElement("canvas"), { width: canvas.width, height: canvas.height });
     copy.getContext("2d").drawImage(canvas, 0, 0);
@@ -124,6 +125,16 @@ class Drawing {
       this.pen.fillStyle = this.colour(what);
       this.pen.fillRect(x(number), top.operations, Math.max(column - gap, 0.6), OPERATIONS);
       if (column >= 11) this.text(LETTERS[what], x(number) + column / 2, middle, `${what}-text`);
+    }
+  }
+
+  // Lines round the operations and the slots, since some of what they hold stands out little from the page.
+  frames() {
+    const { top, high, margin, wide } = this.at, { primary, secondary } = this.boot;
+    this.pen.strokeStyle = this.colour("edge");
+    this.pen.lineWidth = 1;
+    for (const [upper, height] of [[top.operations, OPERATIONS], [top.primary, primary * high], [top.secondary, secondary * high]]) {
+      this.pen.strokeRect(margin - 0.5, upper - 0.5, wide, height);
     }
   }
 

@@ -1,6 +1,6 @@
 "use strict";
 // The sectors of both slots at one moment: runs of sectors that go on with one another are one piece where there are many.
-import { hide_tip, made, show_tip } from "./dom.js";
+import { made, tell_by_tip } from "./dom.js";
 import { class_of, meaning_of } from "./texts.js";
 
 const SINGLE = 24; // so many sectors of a slot each have a piece of their own, where they have room for a word
@@ -59,8 +59,7 @@ function row_of(slot, words, most, wide, frames, choose) {
   const chosen = frames.find(it => it.slot === slot && it.kind === "chosen")?.sector;
   row.setAttribute("aria-valuenow", chosen ?? 0);
   row.setAttribute("aria-valuetext", text_of(chosen ?? 0));
-  row.addEventListener("mousemove", event => show_tip(event, text_of(under(event))));
-  row.addEventListener("mouseleave", hide_tip);
+  tell_by_tip(row, event => text_of(event ? under(event) : chosen ?? 0));
   row.addEventListener("click", event => choose(slot, under(event)));
   row.addEventListener("keydown", event => {
     const to = { ArrowLeft: (chosen ?? 1) - 1, ArrowRight: (chosen ?? -1) + 1, Home: 0, End: words.length - 1 }[event.key];

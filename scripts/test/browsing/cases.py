@@ -53,6 +53,17 @@ def hover(page, start, cuts, index, number):
     page.browser.click(x, y)
     page.await_done(text_of(upto))
     page.compare("small after a click", start, upto)
+    page.same("small says the same without a pointer", page.text(f"#boots > :nth-child({index + 1}) .after"), f"A cut here: {row.split(' ', 1)[1]}")
+    focus(page)
+
+
+def focus(page):
+    """What a tip says is there for the focus too, and goes with Escape."""
+    page.browser.say("document.getElementById('tip').hidden = true; document.querySelector('#boots .sectors').focus({ focusVisible: true })")
+    page.same("small tip of a slot with the focus", page.text("#tip"), page.browser.say("document.querySelector('#boots .sectors').getAttribute('aria-valuetext')"))
+    page.same("small tip is seen", page.browser.say("document.getElementById('tip').hidden"), False)
+    page.browser.key("Escape", 27)
+    page.same("small tip goes with Escape", page.browser.say("document.getElementById('tip').hidden"), True)
 
 
 def skip(page, start, cuts):
@@ -253,13 +264,14 @@ def refusals(page):
     start = Start(page.library, SMALL, images())
     page.open(start)
     replay = ["--verbose", "replay"]
-    for name, value, code in (("sector", "300", "E31"), ("unit", "16", "E30"), ("primary", "9", "E33"), ("chunk", "100", "E32"), ("sector", "-5", None)):
+    for name, value, code, marked in (("sector", "300", "E31", ["sector"]), ("unit", "16", "E30", ["unit"]), ("primary", "9", "E33", ["primary", "secondary"]),
+                                      ("chunk", "100", "E32", ["chunk"]), ("sector", "-5", None, ["sector"])):
         before = page.browser.say(f"document.getElementById('{name}').value")
         page.set_field(name, value)
         page.browser.wait("document.body.dataset.done === 'refused'")
         numbers = [value if field == name else number for field, number in zip(FIELDS, start.numbers)]
         layout = [f"--{field}={number}" for field, number in zip(FIELDS, numbers)]
-        page.compare_refusal(f"{name} {value}", [*replay, *layout, *start.source, *start.rules, "--schedule", "-"], start.files, code)
+        page.compare_refusal(f"{name} {value}", [*replay, *layout, *start.source, *start.rules, "--schedule", "-"], start.files, code, marked)
         if code == "E33":
             page.photograph("refused")
         page.set_field(name, before)
@@ -267,10 +279,23 @@ def refusals(page):
     for name, data, code in (("torn", image_of(2, 300, 2)[:-1], "E8"), ("large", image_of(2, 700, 2), "E50")):
         page.browser.choose_file("#file-b", page.file(f"{name}.bin", data))
         page.browser.wait("document.body.dataset.done === 'refused'")
-        page.compare_refusal(name, [*replay, *start.layout, *start.source, *start.rules, "--schedule", "-"], [start.files[0], data], code)
+        page.compare_refusal(name, [*replay, *start.layout, *start.source, *start.rules, "--schedule", "-"], [start.files[0], data], code, ["file-b"])
+        page.browser.say("document.querySelector('#refusal .fields button').click()")
+        page.same(f"{name} is named, and the way to its field", (page.text("#refusal .fields button"), page.browser.say("document.activeElement.id")),
+                  (f"b, a file: {name}.bin", "file-b"))
         page.browser.choose_file("#file-b", page.file("b of us.bin", start.files[1]))
         page.await_done("-")
     page.compare("after refusals", start, [])
+    page.same("no field is marked", page.browser.say("document.querySelectorAll('[aria-invalid]').length"), 0)
+    page.same("nothing is old", page.browser.say("document.querySelectorAll('.old').length"), 0)
+    page.go_to(start.link() + "&source=life&expect-primary=2.x&script=boot%0Abot")
+    page.await_done("refused")
+    page.same("a script's line", page.text("#refusal h2"), "mcsim: E78 EventSyntax, event 2, line 2")
+    page.same("a script is marked", page.browser.say("[...document.querySelectorAll('[aria-invalid]')].map(it => it.id)"), ["script"])
+    page.set_field("script", "boot")
+    page.await_done("refused")
+    page.same("an expectation is marked", page.browser.say("[...document.querySelectorAll('[aria-invalid]')].map(it => it.id)"), ["expect-primary"])
+    page.photograph("refused-expectation")
 
 
 def made_start(page, numbers, kind="test"):

@@ -176,14 +176,19 @@ class Page:
         self.same(f"{name} commands", [shlex.split(line) for line in shown],
                   [["./mcsim", command, *start.layout, *source, *start.rules, *more] for command, *more in wanted])
 
-    def compare_refusal(self, name, words, files, code):
+    def compare_refusal(self, name, words, files, code, fields):
         _, _, err, _ = self.library.run(words, *files)
         lines = [line for line in err.decode().split("\n") if line]
-        shown = self.browser.say("[...document.querySelectorAll('#refusal > :not(pre)')].map(it => it.textContent)")
+        shown = self.browser.say("[...document.querySelectorAll('#refusal > :not(pre, .fields)')].map(it => it.textContent)")
         self.same(f"{name} refused", shown, lines)
         explanation = self.browser.say("document.getElementById('explanation')?.textContent ?? null")
         self.same(f"{name} explained", explanation, self.library.run(["explain", code])[1].decode() if code else None)
-        self.same(f"{name} hides the rest", self.browser.say("document.getElementById('shown').hidden"), True)
+        marked = self.browser.say("[...document.querySelectorAll('[aria-invalid=true][aria-describedby=refusal]')].map(it => it.id)")
+        self.same(f"{name} marks its fields", marked, fields)
+        self.same(f"{name} leads to its fields", self.browser.say("document.querySelectorAll('#refusal .fields button').length"), len(fields))
+        old = "(it => !it.hidden && it.inert && it.classList.contains('old'))"
+        self.same(f"{name} leaves what was shown, as old", self.browser.say(f"['shown', 'verdict'].map(id => {old}(document.getElementById(id)))"), [True, True])
+        self.same(f"{name} says that it is old", self.browser.say("!document.getElementById('old-note').hidden") and self.text("#verdict .of-last"), "Of the last question:")
         self.same(f"{name} has names for what has the focus", self.browser.nameless(), [])
         if code:
             self.same(f"{name} is {code}", lines[0].split()[1], code)

@@ -1,4 +1,4 @@
-// The colours of the page, light and dark: texts stand out by 4.5 from what is behind them, and borders of fields by 3 (WCAG 2, 1.4.3 and 1.4.11).
+// The colours of the page, light and dark: texts stand out by 4.5 from what is behind them, and borders and marks by 3 (WCAG 2, 1.4.3 and 1.4.11).
 import assert from "node:assert/strict";
 import { readFileSync } from "node:fs";
 import test from "node:test";
@@ -12,7 +12,10 @@ const PLAIN = ["ink", "soft", "focus"].flatMap(text => ["page", "paper", "field"
 const MARKED = ["a", "b", "trailer", "other", "right", "wrong", "bad", "erase", "copy", "write"].map(name => [`${name}-text`, name]);
 const STRIPED = ["a", "b", "trailer", "other", "wrong", "bad"].map(name => [`${name}-text`, `${name}-line`]);
 const TEXTS = [...PLAIN, ...MARKED, ...STRIPED, ["soft", "blank"], ["paper", "ink"]];
-const BORDERS = ["page", "paper", "field"].map(under => ["edge", under]);
+const BORDERS = ["page", "paper", "field", "blank"].flatMap(under => ["edge", "focus", "bad"].map(border => [border, under]));
+// What has no line round it stands out by itself; the rest has one of the colour of borders.
+const OUTLINED = ["blank", "other", "write"];
+const MARKS = ["a", "b", "trailer", "right", "wrong", "bad", "erase", "copy", "soft"].flatMap(mark => ["paper", "blank"].map(under => [mark, under]));
 
 function luminance(colour) {
   const part = at => parseInt(colour.slice(at, at + 2), 16) / 255, linear = it => (it <= 0.04045 ? it / 12.92 : ((it + 0.055) / 1.055) ** 2.4);
@@ -25,7 +28,7 @@ function contrast(one, other) {
 }
 
 for (const [scheme, colours] of Object.entries({ light: LIGHT, dark: DARK })) {
-  for (const [pairs, least] of [[TEXTS, 4.5], [BORDERS, 3]]) {
+  for (const [pairs, least] of [[TEXTS, 4.5], [BORDERS, 3], [MARKS, 3]]) {
     test(`${scheme}: ${pairs.length} pairs of colours stand out by ${least}`, () => {
       for (const [over, under] of pairs) {
         assert.ok(colours[over] && colours[under], `there is no ${over} or ${under}`);
@@ -34,3 +37,13 @@ for (const [scheme, colours] of Object.entries({ light: LIGHT, dark: DARK })) {
     });
   }
 }
+
+test("what stands out little has a line round it", () => {
+  const rule = /^([^{}\n]*) \{ box-shadow: inset 0 0 0 1px var\(--edge\); \}$/m.exec(css);
+  assert.deepEqual(rule[1].split(", ").sort(), OUTLINED.map(name => `.${name}`));
+});
+
+test("print has dark texts on white", () => {
+  const print = colours_of(css.slice(css.indexOf("@media print")));
+  for (const text of ["ink", "soft"]) assert.ok(contrast(print[text], print.paper) >= 4.5, text);
+});
