@@ -3,6 +3,8 @@
 import { made, tell_by_tip } from "./dom.js";
 import { draw_map, places } from "./map.js";
 import { draw_slots } from "./slots.js";
+import { case_words, short_image, worst_kinds } from "./tears.js";
+import { torn_cases } from "./torn.js";
 
 const MOST_CUTS = 16;
 const MOST_SHOWN = 4096; // so many operations of a view are shown one by one
@@ -44,11 +46,12 @@ export class BootCard {
     this.slider = made("input", { type: "range", min: 0, "aria-label": `Power-on ${index + 1}: where power fails` });
     this.line = made("p");
     this.after = made("p", { class: "after" });
+    this.tears = made("div", {});
     this.slots = made("div", { class: "slots" });
     this.save = button("Save this flash");
     this.whole = button("Let it run");
     this.element = made("section", { class: "card boot" }, made("h2", {}, this.heading, this.state), this.zoom, this.canvas, this.slider,
-      made("div", { class: "line" }, this.line, this.whole, this.save), this.after, this.slots);
+      made("div", { class: "line" }, this.line, this.whole, this.save), this.after, this.tears, this.slots);
     this.listen();
   }
 
@@ -74,7 +77,8 @@ export class BootCard {
   // What is known of an operation, and of a cut before it.
   text_at(number) {
     const text = this.map.operations.find(operation => operation.number === number)?.text ?? "", row = this.map.rows.get(number);
-    return `${number} ${text}${row ? `\na cut before it: ${row}` : ""}`;
+    const torn = this.map.cases?.rows.find(it => it.number === number), tear = torn ? `\na tear in it, at worst: ${case_words(torn, this.usual)}` : "";
+    return `${number} ${text}${row ? `\na cut before it: ${row}` : ""}${tear}`;
   }
 
   // Shows so many operations round the cut.
@@ -111,8 +115,9 @@ export class BootCard {
     if (!kept) {
       const [primary, secondary] = [slots.primary.length, slots.secondary.length];
       const shows_each = view.to - view.from <= MOST_SHOWN;
-      this.map = { segments: [], operations: [], samples: [], rows: new Map(), view, shows_each, primary, secondary };
+      this.map = { segments: [], operations: [], samples: [], rows: new Map(), view, shows_each, primary, secondary, shows_tears: Boolean(facts.setup.tears) };
     }
+    this.usual = short_image(outcome.primary);
     this.map.cut = cut;
     this.show_words(outcome);
     if (!moved) this.slider.value = cut ?? this.count;
@@ -142,6 +147,15 @@ export class BootCard {
     const row = this.cut === null ? undefined : this.map.rows.get(this.cut);
     this.after.textContent = row ? `A cut here: ${row}` : "";
     this.after.hidden = !row;
+    const { cases } = this.map;
+    this.tears.replaceChildren(...(cases && this.cut !== null ? [torn_cases(cases, this.cut, this.usual)] : []));
+  }
+
+  // Asks what tears come to; the answer is kept, so that it is asked for once.
+  async fill_tears(map) {
+    const { torn } = await this.facts.tears(this.before);
+    map.cases = torn;
+    map.torn = worst_kinds(torn);
   }
 
   draw() {
@@ -168,6 +182,7 @@ export class BootCard {
       await this.sample(map, signal);
       if (map.shows_each) map.rows = await facts.rows(before, from, to, signal);
     }
+    if (map.shows_tears) await this.fill_tears(map);
     map.complete = true;
     draw_map(this.canvas, map);
     this.show_after();

@@ -28,6 +28,7 @@ export function command_lines(setup, cuts) {
     ["The outcome, and the flash at the cut", "replay", [...at, ["--at-cut", "cut.flash"]]],
     ["A page to send", "picture", [...at, ...slots_expected]],
   ];
+  if (setup.tears) lines.push(["Power lost within an operation of the next boot", "tears", [...at, ["--erase", setup.tears], ...expected]]);
   const said = lines.map(([title, command, more]) => [title, command_line(command, [...start, ...more], names)]);
   return setup.life ? [life_line(setup.life), ...said] : said;
 }

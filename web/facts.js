@@ -2,7 +2,8 @@
 // What the program says of one start: each question is asked once, and its answer kept.
 import { KINDS } from "./kinds.js";
 import { named_slots } from "./places.js";
-import { Lost, Refused, bytes_of, flash, run } from "./program.js";
+import { Lost, Refused, bytes_of, flash, run, run_judged } from "./program.js";
+import { torn_of } from "./tears.js";
 import { cuts_of, fields_of, kind_of, last_operations, rows_of, schedule_text, slots_of } from "./texts.js";
 
 const KEPT = 3000; // answers
@@ -21,6 +22,12 @@ export class Facts {
     this.setup = setup;
     this.answers = new Map();
     this.sector_bytes = Number(setup.numbers[0][1]);
+    this.ending = new AbortController();
+  }
+
+  // Nobody asks this question any more.
+  end() {
+    this.ending.abort();
   }
 
   // An answer that is kept, unless it fails or nobody waits for it any more.
@@ -50,6 +57,16 @@ export class Facts {
 
   census(signal) {
     return this.of_start("census", [["--cuts", this.setup.bound], ...this.setup.expected], signal);
+  }
+
+  // What power that is lost within an operation of the boot after the cuts leads to, and what the program refuses in it.
+  tears(cuts) {
+    const { numbers, source, rules, files, expected, tears } = this.setup, { signal } = this.ending;
+    const pairs = [...numbers, ...source, ...rules, ["--schedule", schedule_text(cuts)], ["--erase", tears], ...expected];
+    return this.once(`tears ${schedule_text(cuts)}`, async () => {
+      const { out, refused } = await run_judged(["tears", ...pairs.flatMap(words_of)], files, signal);
+      return { torn: torn_of(out), refused };
+    }, signal);
   }
 
   outcome(cuts) {

@@ -10,7 +10,9 @@ import { Refused, bytes_of, run } from "./program.js";
 import { fields_of_refusal } from "./refusals.js";
 import { show_scenes } from "./scenes.js";
 import { right_text } from "./sentences.js";
+import { limits_text } from "./tears.js";
 import { fields_of, is_link, schedule_text } from "./texts.js";
+import { show_tearing, show_torn } from "./torn.js";
 import { show_counting, show_last_verdict, show_stopped, show_verdict, show_wanted } from "./verdict.js";
 
 const REST = 150; // milliseconds without a change before the maps are filled
@@ -58,11 +60,18 @@ async function failed(error) {
   if (facts !== state.facts) return;
   const fields = error.fields ?? (error instanceof Refused ? fields_of_refusal(error.message, marked_question(), error.of_life) : []);
   show_refusal(error.message, explanation, mark_fields(fields, "refusal"), state.cuts.length ? () => ask([]) : null);
-  state.counting.abort();
-  by_id("program").hidden = true;
-  by_id("verdict").hidden = !show_last_verdict();
-  by_id("old-note").hidden = by_id("shown").hidden;
+  if (error instanceof Refused) by_id("program").hidden = true;
+  leave_old(facts);
   document.body.dataset.done = document.body.dataset.shown = "refused";
+}
+
+// Leaves what the last question came to, where this one shows nothing; what is shown of this one stays.
+function leave_old(facts) {
+  const is_old = by_id("shown").classList.contains("old");
+  by_id("old-note").hidden = !is_old || by_id("shown").hidden;
+  if (is_old) by_id("verdict").hidden = !show_last_verdict(facts);
+  else if (by_id("verdict").getAttribute("aria-busy") === "true") by_id("verdict").hidden = true;
+  if (is_old) by_id("torn").hidden = true;
 }
 
 // Says of what is shown whether it is of the last question, and takes nothing from there if so.
@@ -162,7 +171,7 @@ async function count(facts) {
   });
   try {
     const [text, versions] = await Promise.all([facts.census(counting.signal), facts.versions()]);
-    if (!counting.signal.aborted) show_verdict(text, facts.setup.bound, right_text(facts.setup, versions), go);
+    if (!counting.signal.aborted) show_verdict(facts, text, right_text(facts.setup, versions), go);
   } catch (error) {
     if (!counting.signal.aborted) await failed(error);
   }
@@ -174,9 +183,27 @@ function put_link(is_new) {
   if (link !== location.hash) history[is_new ? "pushState" : "replaceState"](null, "", link);
 }
 
+// Says what power that is lost within an operation of the first boot leads to, where that is asked, apart from what cuts lead to.
+async function tear(facts) {
+  const { tears } = facts.setup, is_asked = Boolean(tears);
+  by_id("torn").hidden = !is_asked;
+  by_id("limits").textContent = limits_text(tears);
+  document.querySelectorAll(".of-tears").forEach(it => (it.hidden = !is_asked));
+  if (!is_asked) return;
+  show_tearing("Asking what power lost within an operation leads to …");
+  try {
+    const [{ torn, refused }, versions] = await Promise.all([facts.tears([]), facts.versions()]);
+    if (facts === state.facts) show_torn(torn, refused, right_text(facts.setup, versions));
+  } catch (error) {
+    if (facts === state.facts) show_tearing(`The program does not say what power lost within an operation leads to: ${error.message}`);
+  }
+}
+
 // Begins anew with what the form asks.
 async function ask(cuts, is_new = true) {
   const turn = ++state.turn;
+  state.facts?.end();
+  by_id("torn").hidden = true;
   Object.assign(state, { facts: null, chosen: null, cuts });
   state.counting.abort();
   state.filling.abort();
@@ -201,6 +228,7 @@ function begin_answers(asked) {
   state.facts = new Facts(asked);
   show_layout();
   count(state.facts);
+  tear(state.facts);
   go(state.cuts);
 }
 
@@ -221,10 +249,11 @@ async function follow(link) {
 
 // Says that something is to be given first.
 function want(text) {
+  state.facts?.end();
   state.counting.abort();
   state.filling.abort();
   state.facts = null;
-  by_id("shown").hidden = by_id("program").hidden = by_id("refusal").hidden = by_id("old-note").hidden = true;
+  for (const id of ["shown", "program", "refusal", "old-note", "torn"]) by_id(id).hidden = true;
   mark_fields([]);
   by_id("verdict").hidden = false;
   show_wanted(text);

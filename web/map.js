@@ -4,7 +4,7 @@ import { class_of } from "./texts.js";
 
 const ENDS = 13, OPERATIONS = 15, GAP = 4, LETTERS = { erase: "E", copy: "C", write: "W" };
 const LEAST = 5; // pixels
-const MARKS = { right: "✓", wrong: "≠", bad: "✗", mixed: "?" };
+const MARKS = { right: "✓", wrong: "≠", bad: "✗", busy: "⚠", mixed: "?" };
 
 // The height of a sector, by how many there are in both slots.
 const height_of = sectors => (sectors <= 16 ? 17 : sectors <= 48 ? Math.max(5, 240 / sectors) : 240 / sectors);
@@ -13,7 +13,8 @@ const height_of = sectors => (sectors <= 16 ? 17 : sectors <= 48 ? Math.max(5, 2
 export function places(canvas, boot) {
   const { primary, secondary } = boot, high = height_of(primary + secondary);
   const margin = parseFloat(getComputedStyle(canvas).getPropertyValue("--margin"));
-  const top = { ends: 0, operations: ENDS + GAP, primary: ENDS + OPERATIONS + 2 * GAP };
+  const torn = boot.shows_tears ? ENDS + GAP : 0;
+  const top = { ends: 0, tears: torn, operations: torn + ENDS + GAP, primary: torn + ENDS + OPERATIONS + 2 * GAP };
   top.secondary = top.primary + primary * high + GAP;
   const wide = canvas.clientWidth - margin, count = Math.max(1, boot.view.to - boot.view.from), { from } = boot.view;
   const ratio = devicePixelRatio, left = margin * ratio, step = (wide * ratio) / count;
@@ -75,6 +76,7 @@ class Drawing {
     this.targets();
     this.operations();
     this.ends();
+    this.tears();
     this.frames();
     if (!this.boot.complete) return;
     const copy = Object.assign(document.createElement("canvas"), { width: canvas.width, height: canvas.height });
@@ -88,7 +90,7 @@ class Drawing {
       a: this.colour("a"), b: this.colour("b"), blank: this.colour("blank"),
       other: stripes("other", "other-line"), trailer: stripes("trailer", "trailer-line"),
       "a half": stripes("a", "a-line"), "b half": stripes("b", "b-line"),
-      right: this.colour("right"), wrong: stripes("wrong", "wrong-line"), bad: stripes("bad", "bad-line"), mixed: stripes("trailer", "trailer-line"),
+      right: this.colour("right"), wrong: stripes("wrong", "wrong-line"), bad: stripes("bad", "bad-line"), busy: stripes("busy", "busy-line"), mixed: stripes("trailer", "trailer-line"),
     };
   }
 
@@ -102,7 +104,8 @@ class Drawing {
 
   names() {
     const { top, high, margin } = this.at, { primary, secondary } = this.boot;
-    const short = margin < 40, rows = [["a cut here", "", ENDS / 2], ["operation", "", top.operations + OPERATIONS / 2],
+    const tears = this.boot.shows_tears ? [["a tear here", "", top.tears + ENDS / 2]] : [];
+    const short = margin < 40, rows = [["a cut here", "", ENDS / 2], ...tears, ["operation", "", top.operations + OPERATIONS / 2],
       ["primary", "P", top.primary + (primary * high) / 2], ["secondary", "S", top.secondary + (secondary * high) / 2]];
     for (const [long, letter, y] of rows) this.text(short ? letter : long, margin - 8, y, "soft", "right");
   }
@@ -115,6 +118,29 @@ class Drawing {
       this.pen.fillStyle = this.fills[kind];
       this.pen.fillRect(left, 0, right - left, ENDS - 1);
       if (right - left >= 12) this.text(MARKS[kind], (left + right) / 2, ENDS / 2, kind === "mixed" ? "trailer-text" : `${kind}-text`);
+    }
+  }
+
+  // What a tear in each operation comes to at worst, where that is not as a cut.
+  tears() {
+    const { top, margin, wide } = this.at, { torn } = this.boot;
+    if (!this.boot.shows_tears) return;
+    this.pen.fillStyle = this.colour("blank");
+    this.pen.fillRect(margin, top.tears, wide, ENDS - 1);
+    this.pen.strokeStyle = this.colour("edge");
+    this.pen.strokeRect(margin + 0.5, top.tears + 0.5, wide - 1, ENDS - 2);
+    if (!torn) this.text("asking the program", margin + 6, top.tears + ENDS / 2, "soft", "left");
+    else this.torn_marks(torn);
+  }
+
+  torn_marks(kinds) {
+    const { x, top } = this.at, { view } = this.boot;
+    for (const [number, kind] of kinds) {
+      if (number < view.from || number >= view.to) continue;
+      const left = x(number), right = Math.max(x(number + 1), left + LEAST);
+      this.pen.fillStyle = this.fills[kind];
+      this.pen.fillRect(left, top.tears, right - left, ENDS - 1);
+      if (right - left >= 12) this.text(MARKS[kind], (left + right) / 2, top.tears + ENDS / 2, `${kind}-text`);
     }
   }
 

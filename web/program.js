@@ -14,11 +14,16 @@ export class Refused extends Error {
   }
 }
 
-// What a command line prints; refused where it prints nothing.
-export async function run(words, files, signal) {
+// What a command line prints, and what it refuses after that, as a verdict does; refused where it prints nothing.
+export async function run_judged(words, files, signal) {
   const { status, out, err } = await ask("run", { words: ["--verbose", ...words], files }, signal);
   if (status && !out) throw new Refused(status, err);
-  return out;
+  return { out, refused: status ? err : "" };
+}
+
+// What a command line prints alone.
+export async function run(words, files, signal) {
+  return (await run_judged(words, files, signal)).out;
 }
 
 // The digest of the flash that a schedule leaves.

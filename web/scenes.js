@@ -16,6 +16,8 @@ export const SCENES = [
     asks: { kind: "revert", grain: "unit", profile: "2", ...IMAGES } },
   { title: "Half a download", shows: "b is on trial and downloads half an image; is 1.0.0 still to come back?", numbers: SMALL,
     asks: { source: "life", "expect-primary": "1.0.0", script: ["boot", "download b", "request test", "boot", "download a 100"].join("\n"), ...IMAGES } },
+  { title: "An upgrade for good, and torn operations", shows: "b is to stay; power can also fail within an erase or a write", numbers: SMALL,
+    asks: { kind: "perm", tears: "gentle", ...IMAGES } },
   { title: "An erase that was torn, and then a download", shows: "an upgrade loses power within an erase; the device runs on and downloads", numbers: SMALL,
     asks: { source: "life", script: TORN.join("\n"), ...IMAGES } },
   { title: "A dump of the device after that", shows: "the next boot has gone by: what can any boot still do?", numbers: SMALL,

@@ -4,7 +4,7 @@ import { by_id, made } from "./dom.js";
 import { counted, sentence_of } from "./sentences.js";
 import { cuts_of, fields_of } from "./texts.js";
 
-let last = null; // the last verdict: its class and its parts
+let last = null; // the last verdict: the question, its class and its parts
 
 // Shows a verdict, or what stands in its place; `is_old` says that it is not of what is asked now.
 function fill(name, is_busy, is_old, ...parts) {
@@ -15,14 +15,14 @@ function fill(name, is_busy, is_old, ...parts) {
   box.replaceChildren(...parts);
 }
 
-// Shows the last verdict as what it is, and returns whether there was one.
-export function show_last_verdict() {
-  if (last) fill(last.name, false, true, made("p", { class: "of-last" }, "Of the last question:"), ...last.parts);
+// Shows the last verdict as what it is, and returns whether there was one. That of this question stays as it is.
+export function show_last_verdict(facts) {
+  if (last && last.facts !== facts) fill(last.name, false, true, made("p", { class: "of-last" }, "Of the last question:"), ...last.parts);
   return last !== null;
 }
 
-export function show_verdict(text, bound, right, go) {
-  const counts = fields_of(text), { good, text: sentence, shortest } = sentence_of(counts, bound, right);
+export function show_verdict(facts, text, right, go) {
+  const counts = fields_of(text), { good, text: sentence, shortest } = sentence_of(counts, facts.setup.bound, right);
   const mark = made("i", { class: `swatch ${good ? "right" : "bad"}`, "aria-hidden": "true" }, good ? "✓" : "✗");
   const census = made("pre", { id: "census", tabindex: 0, role: "group", "aria-label": "The census" }, text);
   const words = made("details", {}, made("summary", {}, "As the program prints it"), census);
@@ -32,7 +32,7 @@ export function show_verdict(text, bound, right, go) {
     button.addEventListener("click", () => go(cuts_of(shortest)));
     parts.push(made("p", {}, "The shortest that does not: ", button));
   }
-  last = { name: good ? "good" : "not", parts: [...parts, words] };
+  last = { facts, name: good ? "good" : "not", parts: [...parts, words] };
   fill(last.name, false, false, ...last.parts);
 }
 

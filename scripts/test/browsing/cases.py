@@ -286,6 +286,14 @@ def refusals(page):
         page.browser.choose_file("#file-b", page.file("b of us.bin", start.files[1]))
         page.await_done("-")
     page.compare("after refusals", start, [])
+    page.go_to(start.link([99]))
+    page.await_done("refused")
+    page.same("a cut that cannot occur", page.text("#refusal h2"), "mcsim: E53 CannotOccur at 0")
+    page.browser.wait("!document.getElementById('verdict').inert && !!document.getElementById('census')")
+    page.same("the count is of this question", page.text("#census"), start.say("census", "--cuts", "16", *start.expected))
+    page.browser.say("[...document.querySelectorAll('#refusal button')].at(-1).click()")
+    page.await_done("-")
+    page.compare("without cuts", start, [])
     page.same("no field is marked", page.browser.say("document.querySelectorAll('[aria-invalid]').length"), 0)
     page.same("nothing is old", page.browser.say("document.querySelectorAll('.old').length"), 0)
     page.go_to(start.link() + "&source=life&expect-primary=2.x&script=boot%0Abot")
@@ -410,6 +418,50 @@ def scene_start(page, said):
     page.same("a life as the library tells it", (0, page.text("#lived")), (status, out.decode()))
     expected = [word for name in ("expect-primary", "expect-secondary") if name in said for word in (f"--{name}", said[name])]
     return Start(page.library, numbers, [flash], kind="flash", expected=expected)
+
+
+def tears(page):
+    """Power lost within an operation: not asked at first; then a second line of verdict, and the cases of the chosen operation."""
+    start = Start(page.library, SMALL, images(), kind="perm")
+    page.open(start)
+    page.same("tears are not asked", page.browser.say("['torn', ...document.querySelectorAll('.of-tears')].map(it => (document.getElementById(it) ?? it).hidden)"),
+              [True, True, True])
+    page.same("limits without tears", page.text("#limits"), "Power fails between operations, never within one.")
+    verdict = page.text("#verdict h2")
+    for how in ("gentle", "rough"):
+        page.set_field("tears", how)
+        page.await_done("-")
+        page.await_count()
+        operations, cases, *rows = start.say("tears", "--erase", how, *start.expected).splitlines()
+        rows = [row.split() for row in rows]
+        busy = sum(row[2] == "boot" and row[-1] == "busy" for row in rows)
+        page.same(f"{how} has no case without a boot, and one that is busy", ({row[2] for row in rows}, busy > 0), ({"boot"}, True))
+        page.same(f"{how} second line", page.text("#torn h2"), f"⚠ In {busy} of {cases.split()[1]} cases power lost within an operation of the first boot boots, "
+                  "but the next download can brick the device, unlike after a cut there.")
+        page.same(f"{how} first line", page.text("#verdict h2"), verdict)
+        page.same(f"{how} link", f"tears={how}" in page.browser.say("location.hash"), True)
+        torn_operations(page, start, how, int(operations.split()[1]), rows)
+        page.photograph(f"tears-{how}")
+    page.set_field("tears", "")
+    page.await_done("-")
+    page.same("tears are no longer asked", page.browser.say("document.getElementById('torn').hidden"), True)
+    page.compare("after tears", start, [])
+
+
+def torn_operations(page, start, how, count, rows):
+    """The cases of each operation that the program lists, and of one that it does not."""
+    for number in sorted({int(row[0]) for row in rows} | {count - 1}):
+        page.go_to(start.link([number]) + f"&tears={how}")
+        page.await_done(str(number))
+        of_number = [row for row in rows if int(row[0]) == number]
+        shown = page.browser.say("[...document.querySelectorAll('#boots > :first-child .cases li')].map(it => it.textContent)")
+        page.same(f"{how} {number} has its cases and the rest", len(shown), len(of_number) + 1)
+        page.same(f"{how} {number} all cases", sorted(line.split(": ")[1] for line in shown[:-1]), sorted(" ".join(row[1:]) for row in of_number))
+        page.same(f"{how} {number} the worst first", [line[0] for line in shown], sorted((line[0] for line in shown), key="✗⚠≠✓".index))
+        page.same(f"{how} {number} is busy", [line.split(" ", 2)[1:] for line in shown if "next download" in line.split(":")[0]] != [],
+                  any(row[-1] == "busy" for row in of_number))
+    page.go_to(start.link() + f"&tears={how}")
+    page.await_done("-")
 
 
 def lines(page):

@@ -71,6 +71,7 @@ class Client:
             self.page.same(name, self.request("POST", "run", body)[0], 400)
         for name, line in (("create", ["create", "a", "out"]), ("life", ["life"]), ("--out", [*words, "--out", "out"]), ("no words", []),
                            ("--at-cut", [*words, "--at-cut=out"]), ("vectors", ["vectors", "--dir", "x"]), ("a number", ["explain", 31]),
+                           ("all tears", ["tears", *words[1:-2], "--all"]), ("a torn flash", ["tears", *words[1:-2], "--at", "5", "--reading", "data", "--out", "out"]),
                            ("a zero byte", ["explain", "3\x001"]),
                            ("half a letter", ["explain", "\ud800"]), ("all rows", ["explore", *words[1:-2], "--cuts", "16", "--all"]),
                            ("too many rows", ["explore", *words[1:-2], "--cuts", "16", "--limit", "99999999"]),

@@ -74,9 +74,7 @@ class Page:
         self.visit(start.link() + "&a=made.8&b=made.8")
         wait = self.browser.wait
         flash = start.kind == "flash"
-        wait("document.getElementById('name-b')?.textContent.includes('bytes')" + (" && !document.getElementById('of-flash').hidden" if flash else ""))
-        if not flash:
-            self.await_done("-")
+        self.await_done("wanted" if flash else "-")
         for place, data in zip(("flash",) if flash else ("a", "b"), start.files):
             self.browser.choose_file(f"#file-{place}", self.file(f"{place} of us.bin", data))
             wait(f"document.getElementById('name-{place}').textContent === '{place} of us.bin, {len(data):,} bytes'")

@@ -9,13 +9,13 @@ const colours_of = text => Object.fromEntries([...text.matchAll(/--([\w-]+): (#[
 const LIGHT = colours_of(light_css), DARK = { ...LIGHT, ...colours_of(dark_css) };
 
 const PLAIN = ["ink", "soft", "focus"].flatMap(text => ["page", "paper", "field"].map(under => [text, under]));
-const MARKED = ["a", "b", "trailer", "other", "right", "wrong", "bad", "erase", "copy", "write"].map(name => [`${name}-text`, name]);
-const STRIPED = ["a", "b", "trailer", "other", "wrong", "bad"].map(name => [`${name}-text`, `${name}-line`]);
-const TEXTS = [...PLAIN, ...MARKED, ...STRIPED, ["soft", "blank"], ["paper", "ink"]];
+const MARKED = ["a", "b", "trailer", "other", "right", "wrong", "bad", "busy", "erase", "copy", "write"].map(name => [`${name}-text`, name]);
+const STRIPED = ["a", "b", "trailer", "other", "wrong", "bad", "busy"].map(name => [`${name}-text`, `${name}-line`]);
+const TEXTS = [...PLAIN, ...MARKED, ...STRIPED, ["soft", "blank"], ["ink", "blank"], ["paper", "ink"]];
 const BORDERS = ["page", "paper", "field", "blank"].flatMap(under => ["edge", "focus", "bad"].map(border => [border, under]));
 // What has no line round it stands out by itself; the rest has one of the colour of borders.
-const OUTLINED = ["blank", "other", "write"];
-const MARKS = ["a", "b", "trailer", "right", "wrong", "bad", "erase", "copy", "soft"].flatMap(mark => ["paper", "blank"].map(under => [mark, under]));
+const OUTLINED = ["as_cut", "blank", "other", "write"];
+const MARKS = ["a", "b", "trailer", "right", "wrong", "bad", "busy", "erase", "copy", "soft"].flatMap(mark => ["paper", "blank"].map(under => [mark, under]));
 
 function luminance(colour) {
   const part = at => parseInt(colour.slice(at, at + 2), 16) / 255, linear = it => (it <= 0.04045 ? it / 12.92 : ((it + 0.055) / 1.055) ** 2.4);

@@ -7,7 +7,7 @@ import { given_of, strange_in } from "../../../web/link.js";
 import { SCENES, scene_link } from "../../../web/scenes.js";
 import { is_link } from "../../../web/texts.js";
 
-const CHOICES = { source: ["images", "life"], kind: Object.keys(KINDS), grain: ["call", "unit"], profile: ["1", "2", "3"] };
+const CHOICES = { source: ["images", "life"], kind: Object.keys(KINDS), grain: ["call", "unit"], profile: ["1", "2", "3"], tears: ["gentle", "rough"] };
 
 for (const scene of SCENES) {
   test(`${scene.title}: a whole question`, () => {

@@ -33,6 +33,12 @@ test("a picture of two images has what is right from their kind", () => {
   assert.match(line_of(OF_IMAGES, "What all come to"), / --cuts 16 --all-right$/);
 });
 
+test("torn operations are a command where they are asked about", () => {
+  assert.equal(line_of({ ...OF_IMAGES, tears: "rough" }, "Power lost within an operation of the next boot"),
+    "./mcsim tears --sector 256 --kind test --image-a old.img --image-b new.img --grain call --profile 1 --schedule 9.4 --erase rough --all-right");
+  assert.equal(line_of(OF_IMAGES, "Power lost within an operation of the next boot"), undefined);
+});
+
 test("the dump at the end of a life is made first", () => {
   const life = ["life", "--sector=256", "--image", "a", "--out", "out", "c"], lines = command_lines({ ...OF_FLASH, life }, []);
   assert.deepEqual(lines[0], ["The dump, of files a and b and a script", "./mcsim life --sector=256 --image a --out dump.bin script"]);
