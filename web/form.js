@@ -122,16 +122,19 @@ export async function take_link(text) {
 function field_name(id) {
   const own = [...by_id(id).closest("label").childNodes].filter(node => node.nodeType === Node.TEXT_NODE).map(node => node.textContent.trim()).join(" ");
   const place = id.replace(/^(file|payload)-/, ""), file = id.startsWith("file-") && file_in(place)?.name;
+  if (id.startsWith("expect-")) return `expected in the ${own}`;
   if (id.startsWith("payload-")) return `${place}: ${own}`;
   return file ? `${own}: ${file}` : own;
 }
 
-// Marks the fields that a refusal is about, which `describedby` tells; the others are no longer marked. Returns their names.
-export function mark_fields(ids, describedby) {
-  for (const field of document.querySelectorAll("#setup [aria-invalid]")) {
-    field.removeAttribute("aria-invalid");
-    field.removeAttribute("aria-describedby");
-  }
+function unmark(field) {
+  field.removeAttribute("aria-invalid");
+  field.removeAttribute("aria-describedby");
+}
+
+// Marks the fields that a refusal is about, which `describedby` tells; others, or others of some, are no longer marked. Returns their names.
+export function mark_fields(ids, describedby, some) {
+  [...document.querySelectorAll("#setup [aria-invalid]")].filter(field => !some || some.includes(field.id)).forEach(unmark);
   return ids.map(id => {
     by_id(id).setAttribute("aria-invalid", "true");
     by_id(id).setAttribute("aria-describedby", describedby);

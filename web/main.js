@@ -17,6 +17,7 @@ import { show_counting, show_last_verdict, show_stopped, show_verdict, show_want
 
 const REST = 150; // milliseconds without a change before the maps are filled
 const SAVED = 60000; // milliseconds in which a browser has saved a file
+const TIMES = ["erase-us", "write-us"]; // fields that only the layout reads
 const MOST_BYTES = 2 ** 26; // of a file
 const state = { facts: null, cuts: [], chosen: null, filling: new AbortController(), counting: new AbortController(), timer: 0, turn: 0 };
 const cards = [];
@@ -97,6 +98,12 @@ function place_cards(count) {
   for (const card of cards.slice(box.children.length, count)) box.append(card.element);
 }
 
+// What the marks of the maps mean.
+function show_legend(asked) {
+  by_id("right-means").textContent = asked.expected.length ? `a cut here ends with ${right_text(asked)}` : "a cut here ends in a boot";
+  document.querySelectorAll(".of-tears").forEach(it => (it.hidden = !asked.tears));
+}
+
 const show = latest(async () => {
   const { facts, cuts } = state;
   state.filling.abort();
@@ -111,6 +118,7 @@ const show = latest(async () => {
     by_id("refusal").hidden = true;
     by_id("shown").hidden = false;
     mark_old(false);
+    show_legend(facts.setup);
     place_cards(reports.length);
     reports.forEach((boot, i) => cards[i].update(facts, cuts.slice(0, i), cuts[i] ?? null, boot, cuts !== state.cuts));
     show_outcome(cuts, outcome, kind, facts.setup.expected.length);
@@ -157,7 +165,9 @@ async function fill_inspection() {
 async function show_layout() {
   const { facts } = state;
   const text = await facts.layout(times()).catch(error => error.message);
-  if (facts === state.facts) by_id("layout").textContent = text;
+  if (facts !== state.facts) return;
+  by_id("layout").textContent = text;
+  mark_fields(fields_of_refusal(text).filter(id => TIMES.includes(id)), "layout", TIMES);
 }
 
 // Counts all sequences; the count before, if it still runs, is no longer asked.
@@ -185,11 +195,8 @@ function put_link(is_new) {
 
 // Says what power that is lost within an operation of the first boot leads to, where that is asked, apart from what cuts lead to.
 async function tear(facts) {
-  const { tears } = facts.setup, is_asked = Boolean(tears);
-  by_id("torn").hidden = !is_asked;
-  by_id("limits").textContent = limits_text(tears);
-  document.querySelectorAll(".of-tears").forEach(it => (it.hidden = !is_asked));
-  if (!is_asked) return;
+  by_id("torn").hidden = !facts.setup.tears;
+  if (!facts.setup.tears) return;
   show_tearing("Asking what power lost within an operation leads to …");
   try {
     const [{ torn, refused }, versions] = await Promise.all([facts.tears([]), facts.versions()]);
@@ -204,6 +211,7 @@ async function ask(cuts, is_new = true) {
   const turn = ++state.turn;
   state.facts?.end();
   by_id("torn").hidden = true;
+  by_id("limits").textContent = limits_text(by_id("tears").value);
   Object.assign(state, { facts: null, chosen: null, cuts });
   state.counting.abort();
   state.filling.abort();
@@ -222,7 +230,6 @@ async function ask(cuts, is_new = true) {
 
 // Asks the program, once all that it is asked about is there.
 function begin_answers(asked) {
-  by_id("right-means").textContent = asked.expected.length ? `a cut here ends with ${right_text(asked)}` : "a cut here ends in a boot";
   if (!asked.ready) return want(wanted_texts().join(" "));
   by_id("program").hidden = false;
   state.facts = new Facts(asked);
@@ -283,7 +290,10 @@ function follow_width() {
 }
 
 async function begin() {
-  begin_form({ changed: () => ask([]), filed: () => ask(state.cuts), timed: () => state.facts && show_layout(), failed });
+  begin_form({ changed: () => ask([]), filed: () => ask(state.cuts), timed: () => {
+    put_link(false);
+    if (state.facts) show_layout();
+  }, failed });
   show_scenes();
   by_id("link").addEventListener("click", copy_link);
   by_id("inspect-box").addEventListener("toggle", () => state.facts && fill_soon(0));

@@ -44,21 +44,21 @@ export function case_words({ kind, primary }, usual) {
 export const short_image = text => text.split(" ").slice(0, 2).join("/");
 
 const WORST = {
-  bad: "ends without a boot, unlike a cut there",
-  busy: "boots, but the next download can brick the device, unlike after a cut there",
-  wrong: "ends otherwise than a cut there",
+  bad: "the device does not boot, unlike after a cut there",
+  busy: "the device boots, but the next download can brick it, unlike after a cut there",
+  wrong: "the device ends otherwise than after a cut there",
 };
 
 // The line of verdict on torn operations of the first boot; `refused` is what the program refuses in it, and `right` what is expected. It is
 // right only where something is expected, and the program refuses nothing.
 export function torn_sentence({ operations, cases, rows }, refused, right) {
-  const lost = "power lost within an operation of the first boot", worst = rows[0]?.kind;
+  const lost = "Power lost within an operation of the first boot", worst = rows[0]?.kind;
   if (operations === "0") return { kind: "none", text: "The first boot makes no operation, so none can be torn." };
   if (worst) {
     const count = rows.filter(row => row.kind === worst).length;
-    return { kind: worst, text: `In ${grouped(String(count))} of ${grouped(cases)} cases ${lost} ${WORST[worst]}.` };
+    return { kind: worst, text: `${lost}: in ${grouped(String(count))} of ${grouped(cases)} cases ${WORST[worst]}.` };
   }
-  const as_cut = `In all of ${grouped(cases)} cases ${lost} ends as a cut there does`;
+  const as_cut = `${lost}: all of ${grouped(cases)} cases end as after a cut there`;
   if (refused) return { kind: "wrong", text: `${as_cut}, but not always as expected.` };
   return right ? { kind: "right", text: `${as_cut}, with ${right}.` } : { kind: "as_cut", text: `${as_cut}.` };
 }

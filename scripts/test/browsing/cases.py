@@ -122,10 +122,15 @@ def keys(page, start):
     flash = start.flash([0])
     page.same("small bytes by keys", page.text("#bytes"), bytes_text(flash[(start.numbers[4] + 1) * size:(start.numbers[4] + 2) * size], size))
     page.set_field("erase-us", "85000")
+    page.set_field("write-us", "x")
+    page.browser.wait("document.getElementById('write-us').getAttribute('aria-invalid') === 'true'")
+    page.same("small layout refuses a time", page.text("#layout").startswith("mcsim: --write-us takes a number"), True)
     page.set_field("write-us", "41")
     wanted = page.library.run(["layout", *start.layout, "--erase-us", "85000", "--write-us", "41"])[1].decode()
     page.browser.wait("document.getElementById('layout').textContent.includes('swap-us')")
     page.same("small layout", page.text("#layout"), wanted)
+    page.same("small times are right", page.browser.say("document.querySelectorAll('[aria-invalid]').length"), 0)
+    page.same("small times are in the link", "&erase-us=85000&write-us=41" in page.browser.say("location.hash"), True)
 
 
 def save(page, start):
@@ -302,6 +307,8 @@ def refusals(page):
     page.same("a script is marked", page.browser.say("[...document.querySelectorAll('[aria-invalid]')].map(it => it.id)"), ["script"])
     page.set_field("script", "boot")
     page.await_done("refused")
+    page.same("an expectation is named", page.text("#refusal .fields button"), "expected in the primary")
+    page.same("the legend is still of what is shown", page.text("#right-means"), "a cut here ends with b in the primary and a in the secondary")
     page.same("an expectation is marked", page.browser.say("[...document.querySelectorAll('[aria-invalid]')].map(it => it.id)"), ["expect-primary"])
     page.photograph("refused-expectation")
 
@@ -436,8 +443,8 @@ def tears(page):
         rows = [row.split() for row in rows]
         busy = sum(row[2] == "boot" and row[-1] == "busy" for row in rows)
         page.same(f"{how} has no case without a boot, and one that is busy", ({row[2] for row in rows}, busy > 0), ({"boot"}, True))
-        page.same(f"{how} second line", page.text("#torn h2"), f"⚠ In {busy} of {cases.split()[1]} cases power lost within an operation of the first boot boots, "
-                  "but the next download can brick the device, unlike after a cut there.")
+        page.same(f"{how} second line", page.text("#torn h2"), f"⚠ Power lost within an operation of the first boot: in {busy} of {cases.split()[1]} cases the device "
+                  "boots, but the next download can brick it, unlike after a cut there.")
         page.same(f"{how} first line", page.text("#verdict h2"), verdict)
         page.same(f"{how} link", f"tears={how}" in page.browser.say("location.hash"), True)
         torn_operations(page, start, how, int(operations.split()[1]), rows)
