@@ -11,7 +11,9 @@ import { cuts_of, schedule_text } from "./texts.js";
 const IMAGES = ["a", "b"], PLACES = [...IMAGES, "flash"];
 const OTHERS = ["kind", "grain", "profile", "bound", "expect-primary", "expect-secondary", "script", "erase-us", "write-us", "tears"];
 const BEGIN = { kind: "test", grain: "call", profile: "1", bound: "16" };
-const CHOICES = { source: ["images", "flash", "life"], kind: Object.keys(KINDS), grain: ["call", "unit"], profile: ["1", "2", "3"], tears: ["gentle", "rough"] };
+const CHOICES = {
+  source: ["images", "flash", "life"], kind: Object.keys(KINDS), grain: ["call", "unit"], profile: ["1", "2", "3"], tears: ["gentle", "rough"],
+};
 const OF_LIFE = { a: "image that is delivered, in the primary slot", b: "image for downloads" };
 let sized = true; // whether the payloads follow the layout
 
@@ -47,8 +49,8 @@ export function setup() {
   const life = source() === "life" && { name: "dump.bin", ...life_in(life_asked()) }, files = life ? [life] : places;
   const expected = options_of(["expect-primary", "expect-secondary"]).filter(([, text]) => text);
   return {
-    numbers, tears: value_of("tears"), grain: value_of("grain"), profile: value_of("profile"), kind: of_images ? value_of("kind") : "flash", bound: value_of("bound"),
-    six: numbers.map(([, text]) => Number(text)), rules: options_of(["grain", "profile"]),
+    numbers, six: numbers.map(([, text]) => Number(text)), kind: of_images ? value_of("kind") : "flash", rules: options_of(["grain", "profile"]),
+    grain: value_of("grain"), profile: value_of("profile"), bound: value_of("bound"), tears: value_of("tears"),
     source: of_images ? [["--kind", value_of("kind")], ["--image-a", "a"], ["--image-b", "b"]] : [["--flash", "a"]],
     expected: of_images ? [["--all-right"]] : expected, files: files.map(it => it?.digest), names: files.map(it => it?.name),
     made: [...needed().filter(is_made).map(given_in), ...(life ? [life, { name: "script", bytes: by_id("script").value }] : [])],

@@ -26,7 +26,7 @@ export const file_in = place => files[place];
 export async function take_file(place, name, bytes) {
   files[place] = { name, size: bytes.byteLength, sha: await sha_of(bytes), digest: await keep(bytes) };
   hold();
-  await remember(files[place].sha, bytes);
+  remember(files[place].sha, bytes); // nobody waits for it
 }
 
 // Takes the file that a link names, where it is here or the browser has kept it; else the place is empty.

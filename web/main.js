@@ -56,9 +56,9 @@ function go(cuts) {
 // Shows what failed; a refusal with its explanation and its fields. What the last question came to stays, and is said to be of that.
 async function failed(error) {
   if (error.name === "AbortError") return;
-  const number = error instanceof Refused && /^mcsim: (E\d+) /.exec(error.message)?.[1], { facts } = state;
+  const number = error instanceof Refused && /^mcsim: (E\d+) /.exec(error.message)?.[1], { facts, turn } = state;
   const explanation = number ? await run(["explain", number], []).catch(() => "") : "";
-  if (facts !== state.facts) return;
+  if (turn !== state.turn) return;
   const fields = error.fields ?? (error instanceof Refused ? fields_of_refusal(error.message, marked_question(), error.of_life) : []);
   show_refusal(error.message, explanation, mark_fields(fields, "refusal"), state.cuts.length ? () => ask([]) : null);
   if (error instanceof Refused) by_id("program").hidden = true;

@@ -3,6 +3,7 @@
 
 const DATABASE = "mcsim", FILES = "files";
 const MOST = 8; // files
+const PATIENCE = 3000; // milliseconds
 
 const answer_of = request => new Promise((done, fail) => {
   request.onsuccess = () => done(request.result);
@@ -15,17 +16,19 @@ function opened() {
   return answer_of(request);
 }
 
-async function with_files(mode, use) {
+async function used(mode, use) {
+  const database = await opened();
   try {
-    const database = await opened();
-    try {
-      return await use(database.transaction(FILES, mode).objectStore(FILES));
-    } finally {
-      database.close();
-    }
-  } catch {
-    return undefined; // a browser that keeps nothing
+    return await use(database.transaction(FILES, mode).objectStore(FILES));
+  } finally {
+    database.close();
   }
+}
+
+// What is asked of the files, or undefined where the browser keeps nothing or does not answer.
+function with_files(mode, use) {
+  const late = new Promise(done => setTimeout(done, PATIENCE));
+  return Promise.race([used(mode, use), late]).catch(() => undefined);
 }
 
 // Keeps a file, and forgets the oldest where there are too many.

@@ -60,7 +60,8 @@ def hover(page, start, cuts, index, number):
 def focus(page):
     """What a tip says is there for the focus too, and goes with Escape."""
     page.browser.say("document.getElementById('tip').hidden = true; document.querySelector('#boots .sectors').focus({ focusVisible: true })")
-    page.same("small tip of a slot with the focus", page.text("#tip"), page.browser.say("document.querySelector('#boots .sectors').getAttribute('aria-valuetext')"))
+    value = page.browser.say("document.querySelector('#boots .sectors').getAttribute('aria-valuetext')")
+    page.same("small tip of a slot with the focus", page.text("#tip"), value)
     page.same("small tip is seen", page.browser.say("document.getElementById('tip').hidden"), False)
     page.browser.key("Escape", 27)
     page.same("small tip goes with Escape", page.browser.say("document.getElementById('tip').hidden"), True)
@@ -316,9 +317,9 @@ def refusals(page):
 def made_start(page, numbers, kind="test"):
     """The start of the images that the page makes: the library makes the same of the page's payloads."""
     sizes = dict(re.findall(r"[#&]([ab])=made\.(\d+)", page.browser.say("location.hash")))
-    images = []
+    images, module = [], "./made.js" if page.server else "made.js"
     for place, version in (("a", "1.0.0"), ("b", "2.0.0")):
-        payload = page.browser.say(f"import('./made.js').then(it => [...it.payload_of('{place}', {sizes[place]})])")
+        payload = page.browser.say(f"import('{module}').then(it => [...it.payload_of('{place}', {sizes[place]})])")
         page.same(f"the payload of {place} has no zeros", (len(payload), min(payload) > 0), (int(sizes[place]), True))
         status, _, _, image = page.library.run(["create", "--version", version, "--header-size", "32", "--pad-header", "a", "out"], bytes(payload))
         page.same(f"{place} is made", status, 0)
@@ -379,6 +380,7 @@ def files(page):
     page.same("and at its field", page.text("#note-b"), missing)
     page.browser.choose_file("#file-b", page.file("b of us.bin", start.files[1]))
     page.await_done("-")
+    page.same("another file is asked about, as such", page.text("#census"), start.say("census", "--cuts", "16", *start.expected))
     page.same("another file is said", page.text("#note-b").startswith("This is not the file of the link: that is b of us.bin, 300 bytes, SHA-256 0000"), True)
     page.visit(link)
     page.await_done("-")
@@ -431,8 +433,8 @@ def tears(page):
     """Power lost within an operation: not asked at first; then a second line of verdict, and the cases of the chosen operation."""
     start = Start(page.library, SMALL, images(), kind="perm")
     page.open(start)
-    page.same("tears are not asked", page.browser.say("['torn', ...document.querySelectorAll('.of-tears')].map(it => (document.getElementById(it) ?? it).hidden)"),
-              [True, True, True])
+    hidden = page.browser.say("[document.getElementById('torn'), ...document.querySelectorAll('.of-tears')].map(it => it.hidden)")
+    page.same("tears are not asked", hidden, [True, True, True])
     page.same("limits without tears", page.text("#limits"), "Power fails between operations, never within one.")
     verdict = page.text("#verdict h2")
     for how in ("gentle", "rough"):
@@ -443,8 +445,8 @@ def tears(page):
         rows = [row.split() for row in rows]
         busy = sum(row[2] == "boot" and row[-1] == "busy" for row in rows)
         page.same(f"{how} has no case without a boot, and one that is busy", ({row[2] for row in rows}, busy > 0), ({"boot"}, True))
-        page.same(f"{how} second line", page.text("#torn h2"), f"⚠ Power lost within an operation of the first boot: in {busy} of {cases.split()[1]} cases the device "
-                  "boots, but the next download can brick it, unlike after a cut there.")
+        page.same(f"{how} second line", page.text("#torn h2"), f"⚠ Power lost within an operation of the first boot: in {busy} of {cases.split()[1]} "
+                  "cases the device boots, but the next download can brick it, unlike after a cut there.")
         page.same(f"{how} first line", page.text("#verdict h2"), verdict)
         page.same(f"{how} link", f"tears={how}" in page.browser.say("location.hash"), True)
         torn_operations(page, start, how, int(operations.split()[1]), rows)
