@@ -4,7 +4,7 @@ import { made, tell_by_tip } from "./dom.js";
 import { draw_map, places } from "./map.js";
 import { draw_slots } from "./slots.js";
 import { case_words, short_image, worst_kinds } from "./tears.js";
-import { torn_cases } from "./torn.js";
+import { torn_cases, torn_ways } from "./torn.js";
 
 const MOST_CUTS = 16;
 const MOST_SHOWN = 4096; // so many operations of a view are shown one by one
@@ -46,12 +46,13 @@ export class BootCard {
     this.slider = made("input", { type: "range", min: 0, "aria-label": `Power-on ${index + 1}: where power fails` });
     this.line = made("p");
     this.after = made("p", { class: "after" });
+    this.ways = made("p", { class: "row after" });
     this.tears = made("div", {});
     this.slots = made("div", { class: "slots" });
     this.save = button("Save this flash");
     this.whole = button("Let it run");
     this.element = made("section", { class: "card boot" }, made("h2", {}, this.heading, this.state), this.zoom, this.canvas, this.slider,
-      made("div", { class: "line" }, this.line, this.whole, this.save), this.after, this.tears, this.slots);
+      made("div", { class: "line" }, this.line, this.whole, this.save), this.after, this.ways, this.tears, this.slots);
     this.listen();
   }
 
@@ -147,7 +148,15 @@ export class BootCard {
     const row = this.cut === null ? undefined : this.map.rows.get(this.cut);
     this.after.textContent = row ? `A cut here: ${row}` : "";
     this.after.hidden = !row;
-    const { cases } = this.map;
+    this.show_tears();
+  }
+
+  // The cases of the chosen operation; the ways to the others are made anew only where they are others, so that they keep the focus.
+  show_tears() {
+    const { cases, torn } = this.map;
+    if (this.shown_torn !== torn) this.ways.replaceChildren(...(torn ? torn_ways(torn, number => this.cut_at(number)) : []));
+    this.shown_torn = torn;
+    this.ways.hidden = !torn;
     this.tears.replaceChildren(...(cases && this.cut !== null ? [torn_cases(cases, this.cut, this.usual)] : []));
   }
 

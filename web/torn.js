@@ -33,3 +33,17 @@ export function torn_cases(torn, number, usual) {
   const rest = rows.length ? "every other reading: as a cut" : "whatever is read: as a cut";
   return made("ul", { class: "cases", "aria-label": "A tear here" }, ...rows.map(row => case_line(row, usual)), made("li", {}, swatch("as_cut"), ` ${rest}`));
 }
+
+const MOST_WAYS = 24;
+
+// Buttons that lead to the operations of which a case ends otherwise, each with its worst sign.
+export function torn_ways(kinds, choose) {
+  const way = ([number, kind]) => {
+    const button = made("button", { type: "button", "aria-label": `Choose operation ${number}, ${SIGNS[kind]}` }, `${SIGNS[kind]} ${number}`);
+    button.addEventListener("click", () => choose(number));
+    return button;
+  };
+  const ways = [...kinds].sort(([one], [other]) => one - other), more = ways.length - MOST_WAYS;
+  const said = ways.length ? "A tear ends otherwise than a cut at" : "No tear ends otherwise than a cut before or after its operation.";
+  return [said, ...ways.slice(0, MOST_WAYS).map(way), ...(more > 0 ? [`and ${more.toLocaleString("en")} more`] : [])];
+}

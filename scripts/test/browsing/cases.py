@@ -471,6 +471,14 @@ def torn_operations(page, start, how, count, rows):
                   any(row[-1] == "busy" for row in of_number))
     page.go_to(start.link() + f"&tears={how}")
     page.await_done("-")
+    numbers = sorted({int(row[0]) for row in rows})
+    ways = page.browser.say("[...document.querySelectorAll('#boots > :first-child .row.after button')].map(it => Number(it.textContent.slice(2)))")
+    page.same(f"{how} has a way to each", ways, numbers)
+    page.browser.say("(it => { it.focus(); it.click(); })(document.querySelector('#boots .row.after button'))")
+    page.await_done(str(numbers[0]))
+    page.same(f"{how} keeps the focus", page.browser.say("document.activeElement.getAttribute('aria-label').startsWith('Choose operation')"), True)
+    page.go_to(start.link() + f"&tears={how}")
+    page.await_done("-")
 
 
 def lines(page):
