@@ -10,6 +10,7 @@ import { cuts_of, schedule_text } from "./texts.js";
 
 const IMAGES = ["a", "b"], PLACES = [...IMAGES, "flash"];
 const OTHERS = ["kind", "grain", "profile", "bound", "expect-primary", "expect-secondary", "script", "erase-us", "write-us", "tears"];
+const KNOWN = [...FIELDS, ...OTHERS, ...PLACES, "source", "cuts"]; // names in links
 const BEGIN = { kind: "test", grain: "call", profile: "1", bound: "16" };
 const CHOICES = {
   source: ["images", "flash", "life"], kind: Object.keys(KINDS), grain: ["call", "unit"], profile: ["1", "2", "3"], tears: ["gentle", "rough"],
@@ -108,7 +109,7 @@ function named_by(said, place) {
 // Sets the fields as a link says, and returns its cuts, and what of it cannot be read. Where it says nothing of an image, that stays.
 export async function take_link(text) {
   const said = new URLSearchParams(text.replace(/^#/, ""));
-  const strange = strange_in(said, CHOICES), read = name => (strange.includes(name) ? undefined : said.get(name) ?? undefined);
+  const strange = strange_in(said, KNOWN, CHOICES), read = name => (strange.includes(name) ? undefined : said.get(name) ?? undefined);
   FIELDS.forEach((id, i) => (by_id(id).value = said.get(id) ?? BOARDS[0].numbers[i]));
   for (const id of OTHERS) by_id(id).value = read(id) ?? BEGIN[id] ?? "";
   document.querySelector(`[name=source][value=${read("source") ?? "images"}]`).checked = true;

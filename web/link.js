@@ -2,6 +2,7 @@
 // The part of an address after `#` holds all that is asked; of a file its name, size and SHA-256.
 
 const CUTS = /^(-|(0|[1-9]\d{0,9})(\.(0|[1-9]\d{0,9})){0,15})$/;
+const PLACES = ["a", "b", "flash"], CONTROL = /[\0-\x1f\x7f]/;
 const SHA = /^([0-9a-f]{64}|unknown)$/;
 
 // What lies in a place, as a word: `made.264`, or `file.SIZE.SHA.NAME`.
@@ -22,11 +23,19 @@ export function link_text(pairs) {
   return `#${new URLSearchParams(pairs.filter(([, text]) => text !== undefined && text !== ""))}`;
 }
 
-// The names in a link whose texts say nothing: `choices` has for a name the texts that it may have.
-export function strange_in(said, choices) {
-  const places = ["a", "b", "flash"].filter(place => said.has(place) && !given_of(said.get(place)));
-  const chosen = Object.entries(choices).filter(([name, texts]) => said.has(name) && !texts.includes(said.get(name))).map(([name]) => name);
-  return [...places, ...chosen, ...(said.has("cuts") && !CUTS.test(said.get("cuts")) ? ["cuts"] : [])];
+const are_cuts = text => CUTS.test(text) && text.split(".").every(cut => cut === "-" || Number(cut) < 2 ** 32);
+
+// The names in a link that are not of this page or are there twice, or whose texts say nothing: `known` are the names that the page has, and
+// `choices` has for some of them the texts that they may have.
+export function strange_in(said, known, choices) {
+  const is_strange = name => {
+    const text = said.get(name);
+    if (!known.includes(name) || said.getAll(name).length > 1) return true;
+    if (PLACES.includes(name)) return !given_of(text);
+    if (name === "cuts") return !are_cuts(text);
+    return choices[name] ? !choices[name].includes(text) : name !== "script" && CONTROL.test(text);
+  };
+  return [...new Set(said.keys())].filter(is_strange);
 }
 
 // That a link, or a part of it, cannot be read.

@@ -19,7 +19,7 @@ const REST = 150; // milliseconds without a change before the maps are filled
 const SAVED = 60000; // milliseconds in which a browser has saved a file
 const TIMES = ["erase-us", "write-us"]; // fields that only the layout reads
 const MOST_BYTES = 2 ** 26; // of a file
-const state = { facts: null, cuts: [], chosen: null, filling: new AbortController(), counting: new AbortController(), timer: 0, turn: 0 };
+const state = { facts: null, cuts: [], chosen: null, filling: new AbortController(), counting: new AbortController(), timer: 0, turn: 0, is_uncounted: false };
 const cards = [];
 
 const actions = {
@@ -115,7 +115,7 @@ const show = latest(async () => {
     const trailers_asked = facts.trailers(cuts), boots = [...cuts, null].map((cut, i) => of_boot(facts, cuts.slice(0, i), cut, i));
     const [trailers, outcome, kind, ...reports] = await Promise.all([trailers_asked, facts.outcome(cuts), facts.kind(cuts), ...boots]);
     if (facts !== state.facts) return;
-    by_id("refusal").hidden = true;
+    if (!state.is_uncounted) by_id("refusal").hidden = true;
     by_id("shown").hidden = false;
     mark_old(false);
     show_legend(facts.setup);
@@ -183,7 +183,9 @@ async function count(facts) {
     const [text, versions] = await Promise.all([facts.census(counting.signal), facts.versions()]);
     if (!counting.signal.aborted) show_verdict(facts, text, right_text(facts.setup, versions), go);
   } catch (error) {
-    if (!counting.signal.aborted) await failed(error);
+    if (counting.signal.aborted) return;
+    state.is_uncounted = true; // the refusal stays, whatever else is shown
+    await failed(error);
   }
 }
 
@@ -212,7 +214,7 @@ async function ask(cuts, is_new = true) {
   state.facts?.end();
   by_id("torn").hidden = true;
   by_id("limits").textContent = limits_text(by_id("tears").value);
-  Object.assign(state, { facts: null, chosen: null, cuts });
+  Object.assign(state, { facts: null, chosen: null, is_uncounted: false, cuts });
   state.counting.abort();
   state.filling.abort();
   document.body.dataset.shown = document.body.dataset.done = "";

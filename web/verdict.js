@@ -12,6 +12,7 @@ function fill(name, is_busy, is_old, ...parts) {
   box.className = `card ${name}${is_old ? " old" : ""}`;
   box.setAttribute("aria-busy", String(is_busy));
   box.inert = is_old;
+  box.hidden = false;
   box.replaceChildren(...parts);
 }
 

@@ -105,6 +105,11 @@ class Page:
         """Waits until a schedule is shown, and all are counted; its map may still be filled."""
         self.browser.wait(f"document.body?.dataset.shown === '{schedule}' && !!document.getElementById('census')")
 
+    def await_shown_alone(self, schedule):
+        """Waits until a schedule is shown, also where the count is refused."""
+        self.browser.wait(f"!document.getElementById('shown').hidden && !document.getElementById('shown').inert && "
+                          f"document.getElementById('outcome').textContent !== '' && ['{schedule}', 'refused'].includes(document.body.dataset.shown)")
+
     def await_count(self):
         """Waits until all sequences are counted, which may take longer than all else."""
         self.browser.wait("!!document.getElementById('census')")

@@ -19,11 +19,14 @@ test("other words say nothing", () => {
 });
 
 test("what cannot be read in a link is named", () => {
-  const choices = { kind: ["test", "none"], profile: ["1"] }, strange = text => strange_in(new URLSearchParams(text), choices);
+  const known = ["a", "b", "flash", "kind", "profile", "cuts", "sector", "script"], choices = { kind: ["test", "none"], profile: ["1"] };
+  const strange = text => strange_in(new URLSearchParams(text), known, choices);
   assert.deepEqual(strange("a=made.1&b=x&kind=test&cuts=9.4"), ["b"]);
-  assert.deepEqual(strange("kind=&profile=9&flash=&cuts=9."), ["flash", "kind", "profile", "cuts"]);
-  for (const text of ["", "cuts=-", "cuts=0", `cuts=${Array(16).fill(7).join(".")}`]) assert.deepEqual(strange(text), [], text);
-  for (const cuts of ["", "01", "1..2", "-1", Array(17).fill(7).join(".")]) assert.deepEqual(strange(`cuts=${cuts}`), ["cuts"], cuts);
+  assert.deepEqual(strange("kind=&profile=9&flash=&cuts=9."), ["kind", "profile", "flash", "cuts"]);
+  assert.deepEqual(strange("sectr=256&sector=1&sector=1"), ["sectr", "sector"]);
+  assert.deepEqual(strange("sector=%00&script=boot%0Aboot"), ["sector"]);
+  for (const text of ["", "cuts=-", "cuts=0", "cuts=4294967295", `cuts=${Array(16).fill(7).join(".")}`]) assert.deepEqual(strange(text), [], text);
+  for (const cuts of ["", "01", "1..2", "-1", "4294967296", Array(17).fill(7).join(".")]) assert.deepEqual(strange(`cuts=${cuts}`), ["cuts"], cuts);
   assert.match(strange_text(["kind", "cuts"]), /^This link cannot be read: kind, cuts\./);
 });
 

@@ -13,7 +13,7 @@ for (const scene of SCENES) {
   test(`${scene.title}: a whole question`, () => {
     const link = scene_link(scene), said = new URLSearchParams(link.slice(1));
     assert.ok(is_link(link));
-    assert.deepEqual(strange_in(said, CHOICES), []);
+    assert.deepEqual(strange_in(said, [...FIELDS, ...Object.keys(scene.asks)], CHOICES), []);
     assert.deepEqual(FIELDS.map(field => said.get(field)), scene.numbers.map(String));
     for (const place of ["a", "b"]) assert.match(given_of(said.get(place)).made, /^\d+$/);
     for (const [name, text] of Object.entries(scene.asks)) assert.equal(said.get(name), text);
