@@ -34,13 +34,13 @@ head_text e = codes "E" ++ (decimal e.number ++ (codes " " ++ (e.name.now ++ (co
 abbrev pub rest_text : Explanation → List ℕ
 rest_text e = e.when.now ++ (codes "\n" ++ (e.remedy.now ++ codes "\n"))
 
--- Of all refusals there is a line each; of those of a number or a name all is told.
+-- Of all refusals a line each; those of a number or a name in full.
 abbrev pub text_of : Explained → Explanation → List ℕ
 text_of asked.All e = head_text e
 text_of (asked.Number n) e = head_text e ++ rest_text e
 text_of (asked.Named name) e = head_text e ++ rest_text e
 
--- Explanations that are asked for. That they are all of the tables is not said: a table of texts has no name in a clause.
+-- Explanations that are asked for. That these are the tables', and all of them, is not said: a table of texts has no name in a clause.
 pub record Explains (x : Explained) (text : List ℕ) : Type 0 where
   pub explanations : List Explanation
   pub taken : All (Takes x) explanations

@@ -99,7 +99,7 @@ abbrev pub IsOutfile : Holds → List ℕ → Option (List ℕ) → Refusal → 
 IsOutfile holds name out e = (e ≡ refusals.SameFile) × IsSomeAnd out (MayBeOne holds name)
 
 -- One of the files that a script names is refused; or an allocation failed.
-pub record RefusesNamed (holds : Holds) (script : List ℕ) (out : Option (List ℕ)) (e : Refusal) : Type 0 where
+pub record RefusesScriptFile (holds : Holds) (script : List ℕ) (out : Option (List ℕ)) (e : Refusal) : Type 0 where
   pub names : List (List ℕ)
   pub named : Names (sayings script) names
   pub name : List ℕ
@@ -107,7 +107,7 @@ pub record RefusesNamed (holds : Holds) (script : List ℕ) (out : Option (List 
   pub refused : FailsFile holds name e ⊎ IsOutfile holds name out e
 
 abbrev pub FailsShelf : Holds → List ℕ → Option (List ℕ) → Refusal → Type 0
-FailsShelf holds script out e = RefusesNamed holds script out e ⊎ (e ≡ refusals.Memory)
+FailsShelf holds script out e = RefusesScriptFile holds script out e ⊎ (e ≡ refusals.Memory)
 
 -- Why the words of `life`, its files and its script ask for nothing.
 abbrev pub LacksDelivered : Holds → Found → Refusal → Type 0

@@ -57,7 +57,7 @@ impl<'p> Explained<'p> {
         }
     }
 
-    /// What is told of one.
+    /// The text of one.
     ///
     /// # Errors
     ///
@@ -74,7 +74,7 @@ impl<'p> Explained<'p> {
         Ok(text)
     }
 
-    /// Adds what is told of a refusal, if it is one of these.
+    /// Adds the text of a refusal, if it is one of these.
     ///
     /// # Errors
     ///
@@ -95,7 +95,7 @@ impl<'p> Explained<'p> {
         Ok(())
     }
 
-    /// Adds what is told of those among some refusals.
+    /// Adds the texts of those among some refusals.
     ///
     /// # Errors
     ///
@@ -115,7 +115,7 @@ impl<'p> Explained<'p> {
         Ok(())
     }
 
-    /// What is told of all of them.
+    /// The text of all of them.
     ///
     /// # Errors
     ///

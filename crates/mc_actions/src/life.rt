@@ -204,8 +204,6 @@ pub struct Life<'p> {
     shelf: Vec<File>,
     /// Whether what was erased is printed at the end.
     wear: bool,
-    /// Whether it is remembered why an event can't happen.
-    verbose: bool,
     /// The file that the flash at the end goes to, if one is named.
     out: Option<&'p str>,
 }
@@ -235,7 +233,6 @@ pub fn read<'p, F: KnownFiles, R: Read>(
         script,
         shelf,
         wear: arguments.get_flag("wear"),
-        verbose: arguments.get_flag("verbose"),
         out,
     })
 }
@@ -321,8 +318,7 @@ fn replay<F: Files, O: Write>(
         (StopsLife life.now (O.contents out.old) (O.contents out.new)) }
 {
     let replayed = replay_life(alloc, &life.start, &life.script, &life.shelf, out);
-    if life.verbose
-        && let Err(LifeError::Refused(error, _, number)) = &replayed
+    if let Err(LifeError::Refused(error, _, number)) = &replayed
         && let Some(reason) = reason_of(life, alloc, *error, *number)
     {
         files.keep_reason(reason);

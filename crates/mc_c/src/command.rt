@@ -1,6 +1,6 @@
 //! A whole command line.
-ghost use Rattle.std.specs.Prelude.{◌≡◌, ◌≤◌, [], IfErr};
-ghost use Rattle.mc_c.specs.Lines.{IsNoLine, RunsCall, RunsOver};
+ghost use Rattle.std.specs.Prelude.{◌≡◌, ◌≤◌, [], IfErr, IfOk, map, string_bytes};
+ghost use Rattle.mc_c.specs.Lines.{IsNoLine, RunsCall, RunsOver, words_in};
 
 use crate::disk::Disk;
 use crate::put;
@@ -17,10 +17,20 @@ pub struct Lengths {
     pub file: u64,
 }
 
+// The texts between the zero bytes of a text.
+fn split_text(alloc: Global, text: &str) -> Result<Vec<&str>, AllocError>
+    ensures { IfOk result (λ words. map (λ word. word.now) words.items ≡ words_in text.now) }
+{
+    text.split('\0').collect(alloc)
+}
+
 // The words of a text, which a zero byte parts.
-fn split_words(alloc: Global, text: &str) -> Result<Vec<String>, AllocError> {
+fn split_words(alloc: Global, text: &str) -> Result<Vec<String>, AllocError>
+    ensures { IfOk result (λ words. map string_bytes words.items ≡ words_in text.now) }
+{
+    let texts = split_text(alloc, text)?;
     let mut words = Vec::new(alloc);
-    for word in text.split('\0') {
+    for word in texts.as_slice() {
         words.push(word.to_string(alloc)?)?;
     }
     Ok(words)
@@ -28,7 +38,8 @@ fn split_words(alloc: Global, text: &str) -> Result<Vec<String>, AllocError> {
 
 // The words of a command line.
 fn words_of(alloc: Global, bytes: &[u8]) -> Result<Vec<String>, Refusal>
-    ensures { IfErr result (IsNoLine bytes.now) }
+    ensures words { IfOk result (λ words. map string_bytes words.items ≡ words_in bytes.now) }
+    ensures refused { IfErr result (IsNoLine bytes.now) }
 {
     let Ok(text) = std::str::from_utf8(bytes) else {
         return Err(Refusal::NotText);
@@ -39,7 +50,7 @@ fn words_of(alloc: Global, bytes: &[u8]) -> Result<Vec<String>, Refusal>
     }
 }
 
-// Runs a command line over files in memory, where its words are text.
+// Runs the words of a command line over files in memory, where they are text.
 fn run_over(
     disk: &Disk<'_>,
     alloc: Global,

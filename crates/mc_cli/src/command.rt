@@ -1,4 +1,10 @@
 //! The command line, as clap reads it, and its help. Numbers are texts here: `numbers` reads them.
+ghost use Rattle.std.specs.Prelude.{◌≡◌, ◌++◌, List, [], IfOk, codes, map, string_bytes, true};
+ghost use Rattle.clap.specs.declared.builder.texts.Texts.TheVariants.{One};
+ghost use Rattle.clap.specs.declared.builder.value_parser.ValueParser.TheVariants as parsers;
+ghost use Rattle.mc_cli.specs.Program.{Parses, Words, command_words, flag, lines, place, words_of};
+ghost use Rattle.mc_cli.specs.inner.Tables.{IsArg, IsCommand, IsProgram, bare_line, entry_of_word, line_of, with_entries, with_rest};
+
 mod table;
 
 use clap::{Arg, ArgAction, ArgMatches, Command, Error};
@@ -30,20 +36,34 @@ Signatures, encryption and hashes other than SHA-256 are out of scope.";
 /// # Errors
 ///
 /// clap's refusal of the words, the help or the version that they ask for, or that an allocation failed.
-pub fn parse<'a>(alloc: Global, words: &'a [String]) -> Result<ArgMatches<'a>, Error> {
-    let mut program = bare_program(alloc).arg(verbose(alloc))?;
-    for part in table::commands() {
-        program = with_commands(alloc, program, part)?;
-    }
+pub fn parse<'a>(alloc: Global, words: &'a [String]) -> Result<ArgMatches<'a>, Error>
+    ensures { Parses (map string_bytes words.now) result }
+{
+    let program = whole_program(alloc)?;
     program.try_get_matches_from(words)
 }
 
-/// A program with some commands of the table.
+/// The program with the commands of the table.
+fn whole_program<'a>(alloc: Global) -> Result<Command<'a>, AllocError>
+    ensures { IfOk result (IsProgram (map command_words lines)) }
+{
+    let program = with_commands(alloc, bare_program(alloc)?, table::of_images())?;
+    let program = with_commands(alloc, program, table::of_boots())?;
+    let program = with_commands(alloc, program, table::of_flashes())?;
+    let program = with_commands(alloc, program, table::of_explorations())?;
+    let program = with_commands(alloc, program, table::of_others())?;
+    Ok(program)
+}
+
+/// A program with some more commands of the table.
 fn with_commands<'a>(
     alloc: Global,
     program: Command<'a>,
     commands: &'static [Subcommand],
-) -> Result<Command<'a>, AllocError> {
+) -> Result<Command<'a>, AllocError>
+    ensures { IfOk result (λ r. (subs : List Words) → IsProgram subs program.entry
+        → IsProgram (subs ++ map command_words (map line_of commands.now)) r) }
+{
     let mut program = program;
     for subcommand in commands {
         program = program.subcommand(command(alloc, subcommand)?)?;
@@ -52,39 +72,66 @@ fn with_commands<'a>(
 }
 
 /// The program without its commands.
-fn bare_program<'a>(alloc: Global) -> Command<'a> {
+fn bare_program<'a>(alloc: Global) -> Result<Command<'a>, AllocError>
+    ensures { IfOk result (IsProgram []) }
+{
     Command::new(alloc, "mcsim")
         .about(ABOUT)
         .version(VERSION)
         .after_help(AFTER_HELP)
         .subcommand_required(true)
         .arg_required_else_help(true)
+        .arg(verbose(alloc))
 }
 
-/// The option that asks for the reason of a refusal.
-fn verbose<'a>(alloc: Global) -> Arg<'a> {
+/// The option that asks for the reason of a refusal: help shows it among the first of those that have no heading.
+fn verbose<'a>(alloc: Global) -> Arg<'a>
+    ensures { IsArg (flag (codes "verbose")) result }
+{
     Arg::new(alloc, "verbose")
         .long("verbose")
         .action(ArgAction::SetTrue)
-        .global(true)
         .help("Add a line with the reason to a refusal")
+        .display_order(1)
 }
 
 /// A command of the table.
-fn command<'a>(alloc: Global, subcommand: &'static Subcommand) -> Result<Command<'a>, AllocError> {
-    let mut command = Command::new(alloc, subcommand.name)
+fn command<'a>(alloc: Global, subcommand: &'static Subcommand) -> Result<Command<'a>, AllocError>
+    ensures { IfOk result (IsCommand (command_words (line_of subcommand.now))) }
+{
+    let mut command = with_texts(bare_command(alloc, subcommand)?, subcommand);
+    for group in subcommand.groups {
+        command = with_group(alloc, command, *group)?;
+    }
+    Ok(command)
+}
+
+/// A command of the table without the words of its groups.
+fn bare_command<'a>(
+    alloc: Global,
+    subcommand: &'static Subcommand,
+) -> Result<Command<'a>, AllocError>
+    ensures { IfOk result (IsCommand (command_words (bare_line (line_of subcommand.now)))) }
+{
+    let command = Command::new(alloc, subcommand.name)
         .visible_aliases(subcommand.aliases)?
-        .about(subcommand.about);
+        .about(subcommand.about)
+        .arg(verbose(alloc))?;
+    Ok(command)
+}
+
+/// A command with the texts of its help.
+fn with_texts<'a>(command: Command<'a>, subcommand: &'static Subcommand) -> Command<'a>
+    ensures { (w : Words) → IsCommand w command.entry → IsCommand w result }
+{
+    let mut command = command;
     if let Some(usage) = subcommand.usage {
         command = command.override_usage(usage);
     }
     if let Some(text) = subcommand.after_help {
         command = command.after_help(text);
     }
-    for group in subcommand.groups {
-        command = with_group(alloc, command, *group)?;
-    }
-    Ok(command)
+    command
 }
 
 /// A command with the words of a group.
@@ -92,7 +139,10 @@ fn with_group<'a>(
     alloc: Global,
     command: Command<'a>,
     group: Group,
-) -> Result<Command<'a>, AllocError> {
+) -> Result<Command<'a>, AllocError>
+    ensures { IfOk result (λ r. (w : Words) → IsCommand w command.entry
+        → IsCommand (with_entries w (words_of group)) r) }
+{
     let mut command = command;
     if let Some(heading) = group.heading() {
         command = command.next_help_heading(heading);
@@ -104,7 +154,9 @@ fn with_group<'a>(
 }
 
 /// A word as clap's argument.
-fn argument<'a>(alloc: Global, word: &'static Word) -> Arg<'a> {
+fn argument<'a>(alloc: Global, word: &'static Word) -> Arg<'a>
+    ensures { IsArg (entry_of_word word.now) result }
+{
     let mut argument = Arg::new(alloc, word.name)
         .required(word.required)
         .help(word.help);
@@ -118,7 +170,10 @@ fn argument<'a>(alloc: Global, word: &'static Word) -> Arg<'a> {
 }
 
 /// An argument with what its word takes.
-fn with_value<'a>(argument: Arg<'a>, word: &'static Word) -> Arg<'a> {
+fn with_value<'a>(argument: Arg<'a>, word: &'static Word) -> Arg<'a>
+    requires { IsArg (with_rest word.now (place word.now.name.now)) argument }
+    ensures { IsArg (entry_of_word word.now) result }
+{
     match word.takes {
         Takes::Nothing => argument.long(word.name).action(ArgAction::SetTrue),
         Takes::Itself => argument,
@@ -129,11 +184,21 @@ fn with_value<'a>(argument: Arg<'a>, word: &'static Word) -> Arg<'a> {
 }
 
 /// An option that takes one of these values, which its help does not list.
-fn with_values<'a>(argument: Arg<'a>, values: &'a [&'a str]) -> Arg<'a> {
+fn with_values<'a>(argument: Arg<'a>, values: &'a [&'a str]) -> Arg<'a>
+    ensures { result ≡ record argument.entry {
+      value_parser = Some (parsers.Names values.entry);
+      hide_possible_values = true;
+    } }
+{
     argument.value_parser(values).hide_possible_values(true)
 }
 
 /// An option, with the name that its value is shown by.
-fn with_name<'a>(argument: Arg<'a>, name: &'static str, shown: &'static str) -> Arg<'a> {
+fn with_name<'a>(argument: Arg<'a>, name: &'static str, shown: &'static str) -> Arg<'a>
+    ensures { result ≡ record argument.entry {
+      long = Some name.entry;
+      val_names = One shown.entry;
+    } }
+{
     argument.long(name).value_name(shown)
 }

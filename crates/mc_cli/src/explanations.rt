@@ -1,5 +1,4 @@
 //! What each refusal means.
-ghost use Rattle.std.specs.Prelude.{◌≡◌, IfSome};
 
 /// What a refusal means: when it comes, and what to do.
 #[derive(Debug)]
@@ -12,16 +11,7 @@ pub struct Explanation {
     pub remedy: &'static str,
 }
 
-/// The explanation of the refusal that has this number.
-pub fn explanation_of(number: u8) -> Option<&'static Explanation>
-    ensures { IfSome result (λ e. e.now.number ≡ number) }
-{
-    explanations_near(number)
-        .iter()
-        .find(|e| e.number == number)
-}
-
-/// All explanations, by their numbers.
+/// All explanations, by their numbers; `docs/FORMAT.md` has the same tables.
 pub fn all_explanations() -> [&'static [Explanation]; 5] {
     [
         of_images(),
@@ -30,18 +20,6 @@ pub fn all_explanations() -> [&'static [Explanation]; 5] {
         of_explorations(),
         of_commands(),
     ]
-}
-
-/// The explanations among which that of a number is. All of them are by their numbers, and `docs/FORMAT.md` has the same
-/// tables.
-fn explanations_near(number: u8) -> &'static [Explanation] {
-    match number {
-        0..=19 => of_images(),
-        20..=29 => of_the_image_tool(),
-        30..=49 => of_flashes(),
-        50..=69 => of_explorations(),
-        _ => of_commands(),
-    }
 }
 
 /// What is refused of images and versions.

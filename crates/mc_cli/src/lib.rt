@@ -9,7 +9,7 @@ mod known;
 mod watched;
 
 pub use command::parse;
-pub use explanations::{Explanation, all_explanations, explanation_of};
+pub use explanations::{Explanation, all_explanations};
 pub use imgtool::left_out;
 pub use known::{KnownFiles, have_one_number};
 pub use watched::{Failed, WatchedFiles, WatchedWriter};

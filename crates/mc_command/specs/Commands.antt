@@ -1,8 +1,9 @@
 -- What the words of each command ask for, and what answers it.
 use Rattle.std.specs.Io.KnownBytes.{Keeps}
-use Rattle.std.specs.Prelude.{Bool, Err, List, Ok, Option, Result, Some, codes, false, if◌then◌else◌, option_map, true, ℕ, ⊤, ◌&&◌, ◌≡◌, ◌≤◌, ◌⊎◌}
-use Rattle.clap.specs.{Matches.{has_subcommand, subcommand_name_of}, Values.{kind_of}, Words.{first_value, rows_of, subcommand_rows_of}}
-use Rattle.clap.specs.{declared.error.Error.{Error}, declared.error.kind.ErrorKind.{ErrorKind}, declared.parser.matches.ArgMatches.{ArgMatches}, declared.parser.matches.Found.{Found}}
+use Rattle.std.specs.List.{list_any}
+use Rattle.std.specs.Prelude.{Bool, Err, List, None, Ok, Option, Some, [], codes, false, if◌then◌else◌, true, ℕ, ⊤, ◌&&◌, ◌≡◌, ◌≤◌, ◌⊎◌}
+use Rattle.clap.specs.{Simple.{App, subcommand_of}, Walk.{Row, rows_of}, Words.{IsAmong, fault_of, first_value}}
+use Rattle.clap.specs.{declared.error.kind.ErrorKind.{ErrorKind}, declared.parser.matches.Found.{Found}}
 use Rattle.clap.specs.declared.error.kind.ErrorKind.TheVariants as clap
 use Rattle.mc_actions.specs.Explained.{AnswersExplained, GivesExplained}
 use Rattle.mc_actions.specs.Images.{AnswersCreate, AnswersInfile, GivesCreation, GivesInfile, LacksCreation}
@@ -12,7 +13,7 @@ use Rattle.mc_actions.specs.Rounds.{AnswersRounds, AnswersShown, GivesCampaign, 
 use Rattle.mc_actions.specs.Schedules.{AnswersReplay, AnswersSectors, AnswersTrace, GivesBoot, GivesOutputs, GivesScheduled, LacksFrom, LacksScheduled, LacksTraced, LacksViewed}
 use Rattle.mc_actions.specs.Vectors.{AnswersVectors, GivesVectors, IsFew, LacksVectors}
 use Rattle.mc_actions.specs.declared.rounds.RoundText.TheVariants as texts
-use Rattle.mc_cli.specs.Files.{Holds}
+use Rattle.mc_cli.specs.{Files.{Holds}, Program.{IsMcsim}}
 use Rattle.mc_campaign.specs.{Rows.{campaigns}, Texts.{fields_of}}
 use Rattle.mc_command.specs.Inspections.{AnswersInspect, AnswersLocate, GivesInspect, GivesLocate, LacksInspect, LacksLocate}
 use Rattle.mc_command.specs.{Pictures.{AnswersPicture, LacksPicture}, Tears.{AnswersTears, GivesTears, LacksTears}, declared.request.Command.{Command}, declared.request.Request.{Request}}
@@ -21,7 +22,7 @@ use Rattle.mc_command.specs.declared.request.Request.TheVariants as requests
 use Rattle.mc_explore.specs.Rows.{subject}
 use Rattle.mc_explore.specs.Rows as schedules
 use Rattle.mc_imgtool.specs.Lines.{dumped, verified}
-use Rattle.mc_options.specs.{Arguments.{GivesLayout, GivesSpan, GivesView, IsFlag, IsReady, MayGiveTimes}, Requests.{End, IsRun}, Sources.{GivesStart, LacksStart, RefusesSettings}, Statuses.{status_of}, declared.refusal.Refusal.{Refusal}}
+use Rattle.mc_options.specs.{Arguments.{GivesLayout, GivesSpan, GivesView, IsFlag, IsReady, MayGiveTimes}, Requests.{End, IsRun}, Sources.{GivesStart, LacksStart, RefusesSettings, is_file_word}, Statuses.{status_of}, declared.refusal.Refusal.{Refusal}}
 use Rattle.mc_options.specs.Refusals.{ConfirmsAlone, IsNoCampaign, IsNoSchedule, LacksSpan, LacksView}
 use Rattle.mc_options.specs.declared.refusal.Refusal.TheVariants as refusals
 use Rattle.mc_options.specs.declared.options.ExploreOptions.{ExploreOptions}
@@ -43,7 +44,7 @@ Confirms found confirms = IsFlag found (codes "confirm") confirms
 abbrev pub Asks : List ℕ → Holds → Found → Request → Type 0
 Asks name holds found (requests.Create c) = (name ≡ codes "create") × GivesCreation found c
 Asks name holds found (requests.Verify infile) = (name ≡ codes "verify") × GivesInfile found infile
-Asks name holds found (requests.Dumpinfo infile named) = (name ≡ codes "dumpinfo") × GivesInfile found infile × IsFlag found (codes "verbose") named
+Asks name holds found (requests.Dumpinfo infile) = (name ≡ codes "dumpinfo") × GivesInfile found infile
 Asks name holds found (requests.Layout g times) = (name ≡ codes "layout") × GivesLayout found g × MayGiveTimes found times
 Asks name holds found (requests.Type s) = (name ≡ codes "type") × GivesStart holds found s
 Asks name holds found (requests.Replay s o) =
@@ -150,7 +151,7 @@ IsBounded _ = ⊤
 abbrev pub Answers : Request → Holds → Option (List ℕ) → Option (List ℕ) → Option (List ℕ) → End → Type 0
 Answers (requests.Create c) holds input = AnswersCreate c holds input
 Answers (requests.Verify infile) holds input = AnswersInfile verified holds infile input
-Answers (requests.Dumpinfo infile named) holds input = AnswersInfile dumped holds infile input
+Answers (requests.Dumpinfo infile) holds input = AnswersInfile dumped holds infile input
 Answers (requests.Layout g times) holds input = AnswersLayout g times
 Answers (requests.Type s) holds input = AnswersType s
 Answers (requests.Replay s o) holds input = AnswersReplay s o
@@ -177,7 +178,7 @@ Runs name holds found input before after end =
     ((name ≡ codes "life") × IsRun (GivesLife holds input found) (LacksLife holds input found) AnswersLife before after end)
     ⊎ ((name ≡ codes "life" → ⊥) × IsRun (Asks name holds found) (LacksNamed name holds found) (λ request. Answers request holds input) before after end)
 
--- All of a text was out before a command ended so: it was done; or a verdict on it is refused; or an event of a life, and those before it are told.
+-- All of a text was out before a command ended so: it was done; or a verdict on it is refused; or an event of a life, and those before it are out.
 abbrev pub follows_text : End → Bool
 follows_text (Ok done) = true
 follows_text (Err refusals.NotAllBoot) = true
@@ -186,7 +187,7 @@ follows_text (Err refusals.NotWhole) = true
 follows_text (Err (refusals.Life error)) = true
 follows_text (Err _) = false
 
--- Where what a buffer still holds could not be handed on, that is told in place of whatever follows a text, and of nothing else.
+-- Where what a buffer still holds could not be handed on, that is the end in place of whatever follows a text, and of nothing else.
 abbrev pub end_after : End → Bool → End
 end_after done failed = if follows_text done && failed then Err refusals.Write else done
 
@@ -202,33 +203,37 @@ abbrev pub status_at : End → ℕ
 status_at (Ok done) = 0
 status_at (Err e) = status_of e
 
--- The command that clap found in a line, by its name and by what its words gave, is run, and that is the status.
-abbrev pub IsFound : ArgMatches → List ℕ → Found → Type 0
-IsFound m name found = (subcommand_name_of m ≡ Some name) × (option_map (λ p. p.1) (subcommand_rows_of m) ≡ Some (rows_of found))
-
-pub record RunsFound (m : ArgMatches) (holds : Holds) (input before after : Option (List ℕ)) (failed : Bool) (status : ℕ) : Type 0 where
-  pub name : List ℕ
+-- The command that a line names is run with what its words give, and that is the status.
+pub record RunsFound (name : List ℕ) (rows : List Row) (holds : Holds) (input before after : Option (List ℕ)) (failed : Bool) (status : ℕ) : Type 0 where
   pub found : Found
-  pub is_found : IsFound m name found
+  pub found_is : rows_of found ≡ rows
   pub end : End
   pub runs : RunsWhole name holds found input before after failed end
   pub status_is : status ≡ status_at end
 
--- Of a line in which clap found none its refusal is the answer, or the help that is asked for, which may not be written.
+-- It names one; or none, which is refused.
+abbrev pub AnswersFound : Option (List ℕ × List Row) → Holds → Option (List ℕ) → Option (List ℕ) → Option (List ℕ) → Bool → ℕ → Type 0
+AnswersFound (Some (name, rows)) holds input before after failed status = RunsFound name rows holds input before after failed status
+AnswersFound None holds input before after failed status = (status ≡ 2) × (after ≡ before)
+
+-- Of a line in which clap found no command its refusal is the answer, or the help that is asked for, which may not be written.
 abbrev pub AnswersClap : ErrorKind → Option (List ℕ) → Option (List ℕ) → ℕ → Type 0
 AnswersClap clap.DisplayHelp before after status = (status ≡ 0) ⊎ (status ≡ 3)
 AnswersClap clap.DisplayVersion before after status = (status ≡ 0) ⊎ (status ≡ 3)
 AnswersClap clap.OutOfMemory before after status = (status ≡ 3) × (after ≡ before)
 AnswersClap _ before after status = (status ≡ 2) × (after ≡ before)
 
--- What clap made of a line is answered.
-abbrev pub AnswersParsed : Result ArgMatches Error → Holds → Option (List ℕ) → Option (List ℕ) → Option (List ℕ) → Bool → ℕ → Type 0
-AnswersParsed (Ok m) holds input before after failed status =
-    RunsFound m holds input before after failed status ⊎ ((has_subcommand m ≡ false) × (status ≡ 2) × (after ≡ before))
-AnswersParsed (Err e) holds input before after failed status = AnswersClap (kind_of e) before after status
+-- Words are run: what they give by clap's own definitions is answered; or why they are refused by these; or that an allocation failed.
+abbrev pub RunsWords : List (List ℕ) → Holds → Option (List ℕ) → Option (List ℕ) → Option (List ℕ) → Bool → ℕ → Type 0
+RunsWords words holds input before after failed status =
+    ((a : App) × IsMcsim a × (fault_of a words ≡ []) × AnswersFound (subcommand_of a words) holds input before after failed status)
+    ⊎ (((a : App) × IsMcsim a × (kind : ErrorKind) × IsAmong kind (fault_of a words) × AnswersClap kind before after status)
+    ⊎ AnswersClap clap.OutOfMemory before after status)
 
--- A line is run: so; or the file of a layout is refused, before clap is asked.
-abbrev pub RunsLine : Holds → Option (List ℕ) → Option (List ℕ) → Option (List ℕ) → Bool → ℕ → Type 0
-RunsLine holds input before after failed status =
-    ((parsed : Result ArgMatches Error) × AnswersParsed parsed holds input before after failed status)
-    ⊎ ((e : Refusal) × RefusesSettings holds e × (status ≡ status_of e) × (after ≡ before))
+-- A line is run: its words; or, where they name a file of a layout, other words, in which its options stand; or that file is refused.
+abbrev pub RunsLine : List (List ℕ) → Holds → Option (List ℕ) → Option (List ℕ) → Option (List ℕ) → Bool → ℕ → Type 0
+RunsLine words holds input before after failed status =
+    RunsWords words holds input before after failed status
+    ⊎ ((list_any is_file_word words ≡ true)
+    × (((others : List (List ℕ)) × RunsWords others holds input before after failed status)
+    ⊎ ((e : Refusal) × RefusesSettings holds e × (status ≡ status_of e) × (after ≡ before))))

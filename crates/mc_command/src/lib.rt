@@ -1,11 +1,12 @@
 //! The commands of `mcsim`, over the image tool, the flashes and the boots, and the exit status of a command line.
 #![tactic(auto)]
 
-ghost use Rattle.std.specs.Prelude.{◌≡◌, ◌≤◌, is_some};
+ghost use Rattle.std.specs.Prelude.{◌≡◌, ◌≤◌, is_some, map, string_bytes};
 ghost use Rattle.clap.specs.Matches.{found_of};
 ghost use Rattle.clap.specs.Values.{kind_of};
 ghost use Rattle.mc_actions.specs.Lives.{AnswersLife, GivesLife, LacksLife};
-ghost use Rattle.mc_command.specs.Commands.{Answers, AnswersClap, AnswersParsed, Asks, LacksNamed, Runs, RunsLine, RunsWhole, follows_text};
+ghost use Rattle.clap.specs.Words.{subcommand_rows_of};
+ghost use Rattle.mc_command.specs.Commands.{Answers, AnswersClap, AnswersFound, Asks, LacksNamed, Runs, RunsLine, RunsWhole, RunsWords, follows_text};
 ghost use Rattle.mc_options.specs.Requests.{IsRun};
 ghost use Rattle.mc_options.specs.Statuses.{status_of};
 
@@ -32,8 +33,8 @@ pub use tears::TearsAsked;
 /// Runs one command line, whose first word is the program's name, and returns the exit status: 0 where it is done, 1
 /// where a content is refused, 2 where the command line is refused, 3 where a file, a write or memory fails.
 ///
-/// What a buffer holds of `out` is handed on before it returns. A refusal is one line on `err`, or clap's own text; with `--verbose` a second line has its reason, where that is known. A failed
-/// write to `err` changes no status.
+/// What a buffer holds of `out` is handed on before it returns, and before the line of a refusal. A refusal is one line on `err`, or clap's own
+/// text; with `--verbose` a second line has its reason, where that is known. A failed write to `err` changes no status.
 pub fn run<F: KnownFiles, R: Read, O: Write + Drop, E: Write>(
     files: &F,
     alloc: Global,
@@ -42,8 +43,9 @@ pub fn run<F: KnownFiles, R: Read, O: Write + Drop, E: Write>(
     out: &mut WatchedWriter<O>,
     err: &mut E,
 ) -> u8
-    ensures runs { RunsLine (F.holds files.now) (R.remaining input.old) (O.contents out.old.writer)
-        (O.contents out.new.writer) (is_some out.new.failure) result }
+    ensures runs { RunsLine (map string_bytes words.now) (F.holds files.now)
+        (R.remaining input.old) (O.contents out.old.writer) (O.contents out.new.writer)
+        (is_some out.new.failure) result }
     ensures range { result ≤ 3 }
 {
     let watched = WatchedFiles::new(files, alloc);
@@ -71,8 +73,9 @@ fn run_words<F: KnownFiles, R: Read, O: Write + Drop, E: Write>(
     out: &mut WatchedWriter<O>,
     err: &mut E,
 ) -> u8
-    ensures runs { RunsLine (F.holds files.entry.files.now) (R.remaining input.old)
-        (O.contents out.old.writer) (O.contents out.new.writer) (is_some out.new.failure) result }
+    ensures runs { RunsWords (map string_bytes words.now) (F.holds files.entry.files.now)
+        (R.remaining input.old) (O.contents out.old.writer) (O.contents out.new.writer)
+        (is_some out.new.failure) result }
     ensures range { result ≤ 3 }
 {
     match parse(alloc, words) {
@@ -90,7 +93,7 @@ fn run_matches<F: KnownFiles, R: Read, O: Write + Drop, E: Write>(
     out: &mut WatchedWriter<O>,
     err: &mut E,
 ) -> u8
-    ensures runs { AnswersParsed (Ok matches.now) (F.holds files.entry.files.now)
+    ensures runs { AnswersFound (subcommand_rows_of matches.now) (F.holds files.entry.files.now)
         (R.remaining input.old) (O.contents out.old.writer) (O.contents out.new.writer)
         (is_some out.new.failure) result }
     ensures range { result ≤ 3 }
@@ -98,19 +101,23 @@ fn run_matches<F: KnownFiles, R: Read, O: Write + Drop, E: Write>(
     let Some((name, arguments)) = matches.subcommand() else {
         return Refusal::Argument.report(err);
     };
+    let verbose = matches.get_flag("verbose") || arguments.get_flag("verbose");
     // What is said beside the output, and cannot be written, changes nothing.
     let _ = print_cost(name, arguments, err);
-    match run_whole(&files, alloc, name, arguments, input, out, err) {
+    match run_whole(&files, alloc, name, arguments, input, out, err, verbose) {
         Ok(()) => {
             let _ = print_note(&files, name, arguments, err);
             0
         }
-        Err(refusal) => report(files, alloc, arguments, &refusal, out.failure, err),
+        Err(refusal) if verbose => {
+            report_whole(files, alloc, arguments, &refusal, out.failure, err)
+        }
+        Err(refusal) => refusal.report(err),
     }
 }
 
-/// Prints the line of a refusal, and with `--verbose` its reason, or why the last write failed; and returns its status.
-fn report<F: KnownFiles, E: Write>(
+/// Prints the line of a refusal, and its reason, or why the last write failed; and returns its status.
+fn report_whole<F: KnownFiles, E: Write>(
     files: WatchedFiles<'_, F>,
     alloc: Global,
     arguments: &ArgMatches<'_>,
@@ -122,12 +129,10 @@ fn report<F: KnownFiles, E: Write>(
     ensures range { result ≤ 3 }
 {
     let status = refusal.report(err);
-    if arguments.get_flag("verbose") {
-        let _ = match failure {
-            Some(error) => writeln!(err, "mcsim: standard output: {error}"),
-            None => report_reason(files, alloc, arguments, refusal, err),
-        };
-    }
+    let _ = match failure {
+        Some(error) => writeln!(err, "mcsim: standard output: {error}"),
+        None => report_reason(files, alloc, arguments, refusal, err),
+    };
     status
 }
 
@@ -182,7 +187,8 @@ fn follows_text(done: &Result<(), Refusal>) -> bool
     )
 }
 
-/// Runs the command of that name, and hands on what a buffer holds of its text, also before a refusal is told.
+/// Runs the command of that name, and hands on what a buffer holds of its text, also before a refusal. With `named` a report of an image adds
+/// the usual names of its entries on `err`.
 ///
 /// # Errors
 ///
@@ -195,12 +201,13 @@ pub fn run_whole<F: KnownFiles, R: Read, O: Write + Drop, E: Write>(
     input: &mut R,
     out: &mut WatchedWriter<O>,
     err: &mut E,
+    named: bool,
 ) -> Result<(), Refusal>
     ensures { RunsWhole name.now (F.holds files.now.files.now) (found_of arguments.now)
         (R.remaining input.old) (O.contents out.old.writer) (O.contents out.new.writer)
         (is_some out.new.failure) result }
 {
-    let done = run_command(files, alloc, name, arguments, input, out, err);
+    let done = run_command(files, alloc, name, arguments, input, out, err, named);
     if !follows_text(&done) {
         // Why a write failed is remembered, and what was out before may still be held.
         let _ = flush(out);
@@ -225,6 +232,7 @@ fn run_command<F: KnownFiles, R: Read, O: Write, E: Write>(
     input: &mut R,
     out: &mut O,
     err: &mut E,
+    named: bool,
 ) -> Result<(), Refusal>
     ensures { Runs name.now (F.holds files.now.files.now) (found_of arguments.now)
         (R.remaining input.old)
@@ -232,7 +240,7 @@ fn run_command<F: KnownFiles, R: Read, O: Write, E: Write>(
 {
     match name {
         "life" => run_life(files, alloc, arguments, input, out),
-        _ => run_request(files, alloc, name, arguments, input, out, err),
+        _ => run_request(files, alloc, name, arguments, input, out, err, named),
     }
 }
 
@@ -249,6 +257,7 @@ pub fn run_request<F: KnownFiles, R: Read, O: Write, E: Write>(
     input: &mut R,
     out: &mut O,
     err: &mut E,
+    named: bool,
 ) -> Result<(), Refusal>
     ensures { IsRun (Asks name.now (F.holds files.now.files.now) (found_of arguments.now))
         (LacksNamed name.now (F.holds files.now.files.now) (found_of arguments.now))
@@ -260,7 +269,7 @@ pub fn run_request<F: KnownFiles, R: Read, O: Write, E: Write>(
         return Err(Refusal::Argument);
     };
     let request = Request::read(files, alloc, command, arguments)?;
-    request.answer(files, alloc, input, out, err)
+    request.answer(files, alloc, input, out, err, named)
 }
 
 /// Runs `life`, whose script may be standard input.

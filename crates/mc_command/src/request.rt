@@ -90,7 +90,7 @@ pub enum Request<'p> {
     /// Whether a file, or standard input, is a valid image.
     Verify(Option<&'p str>),
     /// What is in an image, of a file or of standard input, and whether its entries are named.
-    Dumpinfo(Option<&'p str>, bool),
+    Dumpinfo(Option<&'p str>),
     /// What follows from the numbers of a layout, and from how long its flash takes.
     Layout(Layout, Option<Times>),
     /// What the trailers of a flash ask for.
@@ -152,7 +152,7 @@ impl<'p> Request<'p> {
         match command {
             Command::Create => read_create(arguments),
             Command::Verify => Ok(Request::Verify(infile_named(arguments))),
-            Command::Dumpinfo => Ok(read_dumpinfo(arguments)),
+            Command::Dumpinfo => Ok(Request::Dumpinfo(infile_named(arguments))),
             Command::Layout => read_layout(arguments),
             Command::Type => read_type(files, alloc, arguments),
             Command::Boot => read_boot(files, alloc, arguments),
@@ -172,7 +172,8 @@ impl<'p> Request<'p> {
         }
     }
 
-    /// Writes its text, or a beginning of it, and says how the command ends.
+    /// Writes its text, or a beginning of it, and says how the command ends. With `named` the usual names of an image's entries follow on
+    /// `err`, where the request is for a report of one.
     ///
     /// # Errors
     ///
@@ -184,6 +185,7 @@ impl<'p> Request<'p> {
         input: &mut R,
         out: &mut O,
         err: &mut E,
+        named: bool,
     ) -> Result<(), Refusal>
         requires { IsBounded self.now }
         ensures { Answers self.now (F.holds files.now.files.now) (R.remaining input.old)
@@ -193,8 +195,8 @@ impl<'p> Request<'p> {
         match self {
             Request::Create(creation) => create::answer(files, alloc, creation, input, out),
             Request::Verify(infile) => verify::answer(files, *infile, input, out),
-            Request::Dumpinfo(infile, named) => {
-                dumpinfo::answer(files, alloc, *infile, *named, input, out, err)
+            Request::Dumpinfo(infile) => {
+                dumpinfo::answer(files, alloc, *infile, named, input, out, err)
             }
             Request::Layout(layout, times) => layout::answer(layout, *times, out),
             Request::Type(start) => trailers::answer(alloc, start, out),
@@ -241,16 +243,6 @@ fn read_create<'p>(arguments: &ArgMatches<'p>) -> Result<Request<'p>, Refusal>
 {
     let creation = Creation::read(arguments)?;
     Ok(Request::Create(creation))
-}
-
-/// What `dumpinfo` is asked for.
-fn read_dumpinfo<'p>(arguments: &ArgMatches<'p>) -> Request<'p>
-    ensures asks { (holds : Holds) → Asks (codes "dumpinfo") holds
-        (found_of arguments.now) result }
-    ensures bounded { IsBounded result }
-{
-    let named = arguments.get_flag("verbose");
-    Request::Dumpinfo(infile_named(arguments), named)
 }
 
 /// What `layout` is asked for.

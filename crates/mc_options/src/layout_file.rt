@@ -1,6 +1,6 @@
 //! The numbers of a layout from a file: the same options, one a line.
-ghost use Rattle.std.specs.Prelude.{◌≡◌, IfErr};
-ghost use Rattle.mc_options.specs.Sources.{IsNoSetting, RefusesSettings};
+ghost use Rattle.std.specs.{List.{list_any}, Prelude.{◌≡◌, IfErr, map, string_bytes}};
+ghost use Rattle.mc_options.specs.Sources.{IsNoSetting, RefusesSettings, is_file_word};
 
 use crate::numbers::NumberOption;
 use crate::refusal::Refusal;
@@ -117,9 +117,18 @@ pub(crate) fn report_lines<F: KnownFiles, E: Write>(
     Ok(())
 }
 
+/// Whether a word names a file of a layout, or says that the next one does.
+fn is_file_word(word: &str) -> bool
+    ensures { result ≡ is_file_word word.now }
+{
+    word == "--layout" || word.starts_with("--layout=")
+}
+
 /// Whether words ask for a layout from a file.
-pub fn asks_file(words: &[String]) -> bool {
-    words.iter().any(|word| word.as_str() == "--layout" || word.starts_with("--layout="))
+pub fn asks_file(words: &[String]) -> bool
+    ensures { result ≡ list_any is_file_word (map string_bytes words.now) }
+{
+    words.iter().any(|word| is_file_word(word.as_str()))
 }
 
 /// The words of a command line with what the file gives before each `--layout FILE`. What stands after `--` stays.

@@ -1,4 +1,7 @@
 //! The commands and the words that they take, as help shows them.
+ghost use Rattle.std.specs.Prelude.{◌≡◌, map};
+ghost use Rattle.mc_cli.specs.Program.{boot_commands, exploration_commands, flash_commands, image_commands, other_commands, words_of};
+ghost use Rattle.mc_cli.specs.inner.Tables.{entry_of_word, line_of};
 
 /// A command.
 pub struct Subcommand {
@@ -68,7 +71,10 @@ impl Group {
     }
 
     /// The words, in the order of the help.
-    pub fn words(self) -> &'static [Word] {
+    #[tactic(auto, unfolding(crate::specs::Program::words_of))]
+    pub fn words(self) -> &'static [Word]
+        ensures { map entry_of_word result.now ≡ words_of self }
+    {
         match self {
             Group::Image => &IMAGE,
             Group::Creation => &CREATION,
@@ -884,39 +890,43 @@ or settled, the secondary's image, and the type of the next boot:
 --wear adds a line for each slot: wear SLOT MOST SECTOR ALL: how often its most erased sector was erased,
 the first such sector, and how often all sectors were.";
 
-/// The commands, in the order of the help, by parts.
-pub fn commands() -> [&'static [Subcommand]; 5] {
-    [
-        of_images(),
-        of_boots(),
-        of_flashes(),
-        of_explorations(),
-        of_others(),
-    ]
-}
-
 /// The commands on images.
-fn of_images() -> &'static [Subcommand] {
+#[tactic(auto, unfolding(crate::specs::Program::image_commands))]
+pub fn of_images() -> &'static [Subcommand]
+    ensures { map line_of result.now ≡ image_commands }
+{
     &IMAGES
 }
 
 /// The commands on a layout and the boots of a flash.
-fn of_boots() -> &'static [Subcommand] {
+#[tactic(auto, unfolding(crate::specs::Program::boot_commands))]
+pub fn of_boots() -> &'static [Subcommand]
+    ensures { map line_of result.now ≡ boot_commands }
+{
     &BOOTS
 }
 
 /// The commands on what lies in a flash.
-fn of_flashes() -> &'static [Subcommand] {
+#[tactic(auto, unfolding(crate::specs::Program::flash_commands))]
+pub fn of_flashes() -> &'static [Subcommand]
+    ensures { map line_of result.now ≡ flash_commands }
+{
     &FLASHES
 }
 
 /// The commands on many schedules of power cuts.
-fn of_explorations() -> &'static [Subcommand] {
+#[tactic(auto, unfolding(crate::specs::Program::exploration_commands))]
+pub fn of_explorations() -> &'static [Subcommand]
+    ensures { map line_of result.now ≡ exploration_commands }
+{
     &EXPLORATIONS
 }
 
 /// The commands on the life of a device and on refusals.
-fn of_others() -> &'static [Subcommand] {
+#[tactic(auto, unfolding(crate::specs::Program::other_commands))]
+pub fn of_others() -> &'static [Subcommand]
+    ensures { map line_of result.now ≡ other_commands }
+{
     &OTHERS
 }
 

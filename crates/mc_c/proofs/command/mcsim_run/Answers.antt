@@ -1,4 +1,4 @@
-use Rattle.std.proofs.Common.{◌≡◌, refl}
+use Rattle.std.proofs.Common.{refl}
 use Rattle.mc_c.specs.declared.disk.Disk.{Disk}
 use Rattle.mc_c.proofs.command.mcsim_run.Goals as goal
 
