@@ -203,6 +203,8 @@ impl Boot {
     }
 
     /// A boot at power-on. It reads and hashes images only where it begins a swap.
+    /// Promised, also of `cold_among`: a boot has exactly the plan's operations (`cold`, `come`).
+    /// Promised: at most L operations, `3T + 3 nmax` saved sectors (`IsCold`, `at_most`, `saves`).
     pub fn cold<F: Flash>(flash: &F, rules: Rules) -> Boot
         ensures cold { IsCold rules (F.seen flash.now) result }
         ensures come { HasCome (powered rules (F.seen flash.now)) (progress result)
@@ -245,6 +247,7 @@ impl Boot {
     }
 
     /// The next operation, and none at the end.
+    /// Promised: the next operation, none at the end; a flash can try it (`first`, `inside`).
     pub fn peek(&self) -> Option<Op>
         ensures first { result ≡ slice_get (to_come self.now) 0 }
         // It lies in the layout, so that the flash can try it.
@@ -337,6 +340,7 @@ impl Boot {
     }
 
     /// Makes the next operation. At the end it does nothing and returns Ok.
+    /// Promised: a step makes the next operation; 40 ends the boot, 41 changes nothing (`step`, `come`, `whole`, `layout`, `keeps`).
     ///
     /// # Errors
     ///
@@ -417,6 +421,7 @@ impl Boot {
     }
 
     /// Makes all operations that are left. After one that is refused the boot is at its end.
+    /// Promised: a boot ends; only a flash that does not count fails it (`goes`, `end`, `spends`, `counts`).
     ///
     /// # Errors
     ///
@@ -449,6 +454,7 @@ impl Boot {
     }
 
     /// What the boot has done, to be asked at its end, where `peek` gives none. It reads and hashes each slot once.
+    /// Promised, also of `outcome_among`: the uncut boot's outcome, whatever images are known (`report`, `end`).
     pub fn outcome<F: Flash>(&self, flash: &F) -> Outcome
         ensures report { let p = progress self.now in shown result
             ≡ report p.rules (F.seen flash.now).geometry p.kind p.count p.faulted
@@ -477,6 +483,7 @@ impl Boot {
 }
 
 /// The outcome of the boot after a power cut, from the outcome that the boot that was cut would have had.
+/// Promised: the outcome after a cut, and one flash is left (`outcome`, `left`).
 ///
 /// `cut` is the boot at the cut, `whole` its outcome without the cut, and `next` the boot at power-on after it. There is an
 /// outcome where the next boot goes on within a transfer of the one that was cut or after the last one, where it begins the

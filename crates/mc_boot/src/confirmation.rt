@@ -25,6 +25,7 @@ fn may_confirm<F: Flash>(flash: &F) -> bool
 /// The image of the primary confirms itself after a finished swap, so that the next boot leaves it where it is: image-ok is
 /// written where the primary's magic is good, its copy-done is set and each byte of the unit at image-ok is 0xff. True where it
 /// was written; elsewhere nothing is.
+/// Promised: a confirmation, exactly where it may, never refused (`does`, `content`, `err`, `keeps`, `spends`, `counts`).
 ///
 /// It is no operation of a boot, and a power cut does not fall in it. It allocates nothing itself.
 ///

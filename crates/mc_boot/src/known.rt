@@ -50,6 +50,7 @@ fn begin_alike(first: &[u8], second: &[u8], size: usize) -> bool
 }
 
 /// What distinguishes the image that the bytes begin with, where it is one of those that are known. It compares bytes, and hashes none.
+/// Promised: a known image's identity is the hashed one (`id_of`).
 pub fn known_id(bytes: &[u8], known: &[Option<KnownImage<'_>>]) -> Option<ImageId>
     ensures { IfSome result (λ id. id_of bytes.now ≡ Some (identity_of id)) }
 {

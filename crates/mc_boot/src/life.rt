@@ -5,6 +5,12 @@ ghost use Rattle.mc_boot.specs.Life.{LifeLaw, NextLaw, OnlyLaw, StartsLaw, WearL
 use mc_image::{one_reading, same_prefix};
 
 /// The life law: in a device's whole life no sequence of power cuts bricks it.
+/// Promised: life: the next boot left alone boots, and does what was asked (`life`, `EndsWell`, `Forgets`).
+/// Promised: what is asked next; what a confirmation changes (`next`).
+/// Promised: no image comes from nowhere (`only`).
+/// Promised: every erase and write of the secondary is covered (`work`).
+/// Promised: starts, but a revert's, can be delivered (`starts`).
+/// Promised: no power-on erases a sector more than twice (`wear`).
 ///
 /// Take any flash that a device can be delivered with, and any list of events from there on: power-on with a power cut before
 /// any operation of the boot; power-on with a boot that is left alone; and, while an image runs, that it leaves the secondary

@@ -34,6 +34,7 @@ impl SharedTail {
 
     /// Where the flashes of the next boot lie among those of the boot that was cut: it stands where that one left the flash. None where
     /// that does not follow from the courses of the two, or from which sectors are erased.
+    /// Promised, also of `index_in_parent`, `kept` and `erases`: each flash on the way to a shared outcome (`IsSharedTail`).
     pub fn find<F: Flash>(flash: &F, cut: &Boot, next: &Boot) -> Option<SharedTail>
         requires { IsBootOf (F.seen flash.now).geometry next.now }
         ensures { (r : Rules) (s : Content) (whole : Report) → let f = F.seen flash.now in

@@ -9,6 +9,7 @@ use mc_trailer::SwapType;
 
 /// How many operations the whole swap for a test has of two images that fit, the larger of which takes as many sectors as an
 /// image may have. It takes no memory.
+/// Promised: the largest swap for a test has exactly that many (`value`, `made`).
 pub fn swap_operations(layout: &Layout, grain: Grain) -> u32
     ensures value { result ≡ swap_operations grain layout.now }
     // The boot from the start of such images makes so many.

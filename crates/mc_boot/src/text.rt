@@ -112,6 +112,7 @@ impl Outcome {
 }
 
 /// Six lines: the result, the type, how many operations happened, what the slots hold, and the next type.
+/// Promised, also of `ImageId::fmt` and `BootResult::fmt`: an outcome prints as six lines (`output`).
 impl fmt::Display for Outcome {
     ghost output = { λ outcome. Some (outcome_text (shown outcome)) };
 

@@ -5,6 +5,12 @@ ghost use Rattle.mc_boot.specs.Torn.{BitsLaw, CutsLaw, DropsLaw, TornLaw, TornLi
 use mc_image::{one_reading, same_prefix};
 
 /// The law of torn operations: power that is lost within an operation bricks no device.
+/// Promised: torn: from rest, the next boot left alone boots; how it may end (`torn`, `IsTorn`, `gently`, `roughly`).
+/// Promised: torn boots from the four starts, by images (`starts`).
+/// Promised: a life with tears, by profiles 1 and 2 if stores wait (`life`, `MayStore`).
+/// Promised: no image comes from nowhere, with tears too (`only`).
+/// Promised: failing bits and cuts are losses of power (`bits`, `cuts`).
+/// Promised: by profiles 1 and 2 every layout can drop an upgrade (`drops`).
 ///
 /// What is left there of the bytes that the operation would change is any bytes, and the others are as they were (`gently`); of an
 /// erase that is torn any bytes may be left in its sector (`roughly`). After every list of such losses, and of cuts, however long, the

@@ -43,6 +43,7 @@ fn erases_first(layout: &Layout, boot: &Boot, slot: Slot, offset: u32, len: u32)
 /// Whether the same boot surely begins after a cut one operation later, by the boot that was cut and by the next one, at power-on: the
 /// flash stands at the cut. It does where the operation erases a sector that is erased, or copies into one that the next boot erases
 /// first.
+/// Promised: the same boot begins one operation later (`HasTwin`).
 pub fn has_twin<F: Flash>(flash: &F, cut: &Boot, next: &Boot) -> bool
     ensures { let f = F.seen flash.now in (x : PowerOn) → x.geometry ≡ f.geometry
         → IsSized x.geometry f.content → HasCome x (progress cut.now) f.content
@@ -68,6 +69,7 @@ pub fn has_twin<F: Flash>(flash: &F, cut: &Boot, next: &Boot) -> bool
 
 /// Makes the copies that are next, at most so many, where the next boot, at power-on, erases the sector first into which they go, and
 /// returns how many these are: the same boot surely begins after a cut anywhere among them. Elsewhere it makes none.
+/// Promised: the same boot begins after several copies (`twins`, `goes`, `passed`).
 ///
 /// # Errors
 ///

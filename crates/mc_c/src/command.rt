@@ -72,6 +72,7 @@ fn run_over(
 
 /// Runs a command line, whose first word is the program's name, and returns the status of the program: 0 where it is done, 1 where a
 /// content is refused, 2 where the command line is, 3 where a file, a write or memory fails.
+/// Promised: text and status over files in memory, into a caller's buffer (`runs`, `RunsCall`).
 ///
 /// A zero byte parts the words. Its files are `a`, `b` and `c`, which are read, and `out`, which is written; `input` is standard
 /// input. Each buffer gets as much of its output as fits.

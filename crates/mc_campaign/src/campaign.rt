@@ -118,6 +118,8 @@ impl Campaign {
     /// The campaign that a text says: `-` for no cut, else 1 to 16 cuts with commas between them. A cut is written as its
     /// round, 1 or 2, a point and its number, below 2^32 and without leading zeros: `1.0,2.5`. No cut of the first round
     /// stands after one of the second. It takes no memory.
+    /// Promised, also of `CampaignCursor::read` and `fmt`: campaigns and their cursors read exactly, and print (`exact`, `only`, `at_most`,
+    /// `output`).
     ///
     /// # Errors
     ///

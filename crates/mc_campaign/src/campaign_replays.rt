@@ -40,7 +40,8 @@ fn replay_round<F: Flash>(
     Ok(done)
 }
 
-// From one round to the next. A flash that counts has room for one write more, and so is not refused memory.
+/// From one round to the next. A flash that counts has room for one write more, and so is not refused memory.
+/// Promised, also of `mc_explore::visit_child`: a counting flash needs no memory for rounds, confirmations, tables (`cause`).
 fn settle<F: Flash>(confirms: bool, flash: &mut F) -> Result<(), ReplayError>
     requires { let f = F.seen flash.old in f.usage.limits.counted ≡ true → Allows one_write f }
     ensures content { OnOk result ((F.seen flash.new).content ≡ confirmed_if confirms
@@ -58,6 +59,7 @@ fn settle<F: Flash>(confirms: bool, flash: &mut F) -> Result<(), ReplayError>
 /// The start of the second round: the flash that the first round leaves, whose cuts those are, once the image has confirmed itself,
 /// where it does. The first round has a flash of its own, which is loaded for three boots more than it has cuts. What the slots then
 /// hold is hashed.
+/// Promised: where a campaign's second round begins (`BeginsSecond`).
 ///
 /// # Errors
 ///
@@ -82,6 +84,8 @@ pub fn start_of_second<F: Flash>(
 
 /// The outcomes of both rounds of a campaign from a start, between which the image confirms itself or not, and the flash that the
 /// second leaves. Each round has a flash of its own, which is loaded for three boots more than the campaign has cuts.
+/// Promised, also of `mc_explore::TreeExplorer::next_row`: the restart theorem of both rounds of each campaign (`restarts`).
+/// Promised: a campaign's outcomes and flash, or 53 over both rounds (`replayed`, `geometry`, `exact`).
 ///
 /// # Errors
 ///

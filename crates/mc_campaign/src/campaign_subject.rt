@@ -98,6 +98,7 @@ impl Subject for Campaigns {
         row.campaign
     }
 
+    #[inline(always)]
     fn end(row: &CampaignRow) -> Outcome
         ensures { shown result ≡ campaigns.ends (states.shown_row row.now) }
     {

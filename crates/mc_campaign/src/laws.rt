@@ -11,6 +11,7 @@ ghost use Rattle.mc_explore.specs.Rounds.{tree_of};
 
 /// The campaigns that can occur are the paths of the tree of two rounds: each of at most so many cuts is that of a path of at
 /// most so many steps, and each such path is that of such a campaign. The order of campaigns is that of their paths.
+/// Promised: campaigns are the paths of the tree of two rounds (`paths`, `all`, `order`).
 pub fn campaigns_are_paths()
     ensures paths { (x : PowerOn) (confirms : Bool) (bound : ℕ) (c : List (ℕ × ℕ))
         → IsMember x confirms bound c ↔ ((path : List ℕ) × IsPathOf x confirms bound path c) }
@@ -24,6 +25,7 @@ pub fn campaigns_are_paths()
 
 /// Past each position there is one ascending list of rows of campaigns, and no other. After its first row the others are to
 /// come.
+/// Promised: one list of campaigns (`some`, `only`, `tail`, `order`).
 pub fn one_list_of_campaigns()
     ensures some { (state : State) → (rows : List ShownRow) × IsRest state rows }
     ensures only { (state : State) (xs ys : List ShownRow) → IsRest state xs → IsRest state ys → xs
@@ -37,6 +39,7 @@ pub fn one_list_of_campaigns()
 
 /// Pages of campaigns join up: the rows of pages that are continued from their cursors are a prefix of the rows to come where
 /// the first one began, and all of them where the last one says `end`.
+/// Promised: pages of campaigns join up (`joined`, `resumed`).
 pub fn campaign_pages_join_up()
     ensures joined { (limits : List ℕ) (state : State) (whole rows : List ShownRow) (ended : Bool)
         → All (λ n. 0 < n) limits → IsRest state whole

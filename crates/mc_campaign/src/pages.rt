@@ -11,6 +11,8 @@ use std::io::Write;
 
 /// Writes the next rows, at most so many, a line each; then where to go on, or `end` where there were fewer. It takes no
 /// memory but through the flash.
+/// Promised: the restart theorem of each campaign printed (`page`, `began`).
+/// Promised: a page of campaigns: rows, then a cursor or `end` (`page`, `began`, `explores`, `err`, `unwritten`).
 ///
 /// # Errors
 ///

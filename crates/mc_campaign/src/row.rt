@@ -16,6 +16,7 @@ pub struct CampaignRow {
 
 impl CampaignRow {
     /// How the campaign ends: as its second round does; but where the first does not end in a boot, with the result of the first.
+    #[inline(always)]
     pub fn end(&self) -> Outcome
         ensures { shown result ≡ end_of (shown_row self.now) }
     {

@@ -24,7 +24,7 @@ added_word w old new a e is arg adds =
       local = adds.globals ∙ (ap (λ b. b || a.global) is.local ∙ arg.1);
     }
 
--- After one more of the words of a group its entry stands behind those before it.
+-- After one more of the words of a group its entry follows the others.
 pub further : (w : Words) (xs : List Word) (i : ℕ) (d : Word) (c : Command) → i < length xs
     → IsCommand (with_entries (with_entries w (map entry_of_word (take i xs))) (entry_of_word (get_or xs i d) ∷ [])) c
     → IsCommand (with_entries w (map entry_of_word (take (i + 1) xs))) c
@@ -74,7 +74,7 @@ added_command subs old sub new w is one adds =
       local = adds.globals ∙ (ap (λ b. b || (fields_of sub).has_globals) is.local ∙ one.local);
     }
 
--- After one more of the commands of a part it stands behind those before it.
+-- After one more of the commands of a part it follows the others.
 pub one_further : (subs : List Words) (xs : List Subcommand) (i : ℕ) (d : Subcommand) (c : Command) → i < length xs
     → IsProgram ((subs ++ map command_words (map line_of (take i xs))) ++ command_words (line_of (get_or xs i d)) ∷ []) c
     → IsProgram (subs ++ map command_words (map line_of (take (i + 1) xs))) c

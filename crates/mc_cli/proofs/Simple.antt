@@ -10,38 +10,7 @@ use Rattle.clap.specs.Walk.{Rule, Text, is_early_multiple}
 use Rattle.clap.specs.declared.builder.{action.ArgAction.{ArgAction}, range.ValueRange.{ValueRange}}
 use Rattle.mc_cli.specs.Program.{Entry, IsMcsim, Line, Words, command_words, entry_of, boot_commands, exploration_commands, flash_commands, image_commands, lines, other_commands, program_words, words_of, words_read}
 
--- A word uses none of the settings that change how words are read, and only options take more than one value.
-abbrev pub is_tame : Rule → Bool
-is_tame r =
-    r.is_simple
-    && (r.is_free
-    && (not (is_some r.index)
-    && (not (is_some r.range)
-    && (is_some r.long || (not (is_some r.short) && (not (is_some r.action) && (r.value_names == 0)))))))
-
-abbrev goes_well : ℕ → Rule → Bool
-goes_well n r = r.is_simple && (r.is_free && not (is_early_multiple n r))
-
-abbrev shaped : Rule → Bool → Bool → Option ℕ → Option ValueRange → Option Text → Option ℕ → Option ArgAction → ℕ → Rule
-shaped q simple free index range long short action names =
-    record q { is_simple = simple; is_free = free; index = index; range = range; long = long; short = short; action = action; value_names = names }
-
-one_filled : (n i : ℕ) (q : Rule) (simple free : Bool) (index : Option ℕ) (range : Option ValueRange) (long : Option Text) (short : Option ℕ) (action : Option ArgAction) (names : ℕ)
-    → is_tame (shaped q simple free index range long short action names) ≡ true
-    → goes_well n (with_index i (filled (shaped q simple free index range long short action names))) ≡ true
-one_filled n i q true true None None (Some l) short action names tame = refl
-one_filled n i q true true None None None None None zero tame = refl
-one_filled n i q true true None None None None None (suc k) tame = let other : (suc k == 0) ≡ false = grind (arith, nat_tests) in absurd (cc)
-one_filled n i q true true None None None None (Some a) names tame = absurd (cc)
-one_filled n i q true true None None None (Some s) action names tame = absurd (cc)
-one_filled n i q true true None (Some r) long short action names tame = absurd (cc)
-one_filled n i q true true (Some x) range long short action names tame = absurd (cc)
-one_filled n i q true false index range long short action names tame = absurd (cc)
-one_filled n i q false free index range long short action names tame = absurd (cc)
-
-tame_filled : (n i : ℕ) (r : Rule) → is_tame r ≡ true → goes_well n (with_index i (filled r)) ≡ true
-tame_filled n i r tame = one_filled n i r r.is_simple r.is_free r.index r.range r.long r.short r.action r.value_names tame
-
+-- What a conjunction is made of.
 both : (a b : Bool) → a ≡ true → b ≡ true → (a && b) ≡ true
 both a b first second = ap (λ x. x && b) first ∙ second
 
@@ -52,6 +21,40 @@ first_of false b h = h
 second_of : (a b : Bool) → (a && b) ≡ true → b ≡ true
 second_of true b h = h
 second_of false b h = absurd (cc)
+
+-- A word has its place where it is built, and only options take more than one value; it uses none of the settings that change how words are read.
+abbrev is_placed : Rule → Bool
+is_placed r =
+    not (is_some r.index)
+    && (not (is_some r.range)
+    && (is_some r.long || (not (is_some r.short) && (not (is_some r.action) && (r.value_names == 0)))))
+
+abbrev pub is_tame : Rule → Bool
+is_tame r = r.is_simple && (r.is_free && is_placed r)
+
+abbrev goes_well : ℕ → Rule → Bool
+goes_well n r = r.is_simple && (r.is_free && not (is_early_multiple n r))
+
+abbrev shaped : Rule → Option ℕ → Option ValueRange → Option Text → Option ℕ → Option ArgAction → ℕ → Rule
+shaped q index range long short action names =
+    record q { index = index; range = range; long = long; short = short; action = action; value_names = names }
+
+late : (n i : ℕ) (q : Rule) (index : Option ℕ) (range : Option ValueRange) (long : Option Text) (short : Option ℕ) (action : Option ArgAction) (names : ℕ)
+    → is_placed (shaped q index range long short action names) ≡ true
+    → not (is_early_multiple n (with_index i (filled (shaped q index range long short action names)))) ≡ true
+late n i q None None (Some l) short action names placed = refl
+late n i q None None None None None zero placed = refl
+late n i q None None None None None (suc k) placed = let other : (suc k == 0) ≡ false = grind (arith, nat_tests) in absurd (cc)
+late n i q None None None None (Some a) names placed = absurd (cc)
+late n i q None None None (Some s) action names placed = absurd (cc)
+late n i q None (Some r) long short action names placed = absurd (cc)
+late n i q (Some x) range long short action names placed = absurd (cc)
+
+tame_filled : (n i : ℕ) (r : Rule) → is_tame r ≡ true → goes_well n (with_index i (filled r)) ≡ true
+tame_filled n i r tame =
+    let rest = second_of r.is_simple (r.is_free && is_placed r) tame in
+    let is_late = late n i r r.index r.range r.long r.short r.action r.value_names (second_of r.is_free (is_placed r) rest) in
+    both _ _ (first_of r.is_simple (r.is_free && is_placed r) tame) (both _ _ (first_of r.is_free (is_placed r) rest) is_late)
 
 all_filled : (n i : ℕ) (rules : List Rule) → list_all is_tame rules ≡ true → list_all (goes_well n) (filled_from i rules) ≡ true
 all_filled n i [] tame = refl
@@ -139,7 +142,9 @@ all_good top (s ∷ subs) (l ∷ ls) same tame =
     both _ _ (subst (λ x. is_good top x ≡ true) (sym (same_shape s (command_words l) head)) (one_good top l s.rules rules)) (all_good top subs ls tail (second_of _ _ tame))
 
 split : (top : List Rule) (subs : List Shape) → list_all (is_good top) subs ≡ true
-    → (list_all is_simple_leaf subs ≡ true) × (list_all (λ s. is_ready_leaf (built_leaf (inherited (above top) s))) subs ≡ true) × (list_all (λ s. has_free_rules (built_leaf (inherited (above top) s))) subs ≡ true)
+    → (list_all is_simple_leaf subs ≡ true)
+    × (list_all (λ s. is_ready_leaf (built_leaf (inherited (above top) s))) subs ≡ true)
+    × (list_all (λ s. has_free_rules (built_leaf (inherited (above top) s))) subs ≡ true)
 split top [] h = (refl, refl, refl)
 split top (s ∷ subs) h =
     let built_s = built_leaf (inherited (above top) s) in
@@ -163,9 +168,9 @@ over q top subs each help =
     ∙ (list_all-append (λ s. q (built_leaf s)) (map (inherited (above top)) subs) (help_shape ∷ [])
     ∙ both _ _ (list_all-map (λ s. q (built_leaf s)) (inherited (above top)) subs ∙ each) (both _ _ help refl))
 
-told : (top : List Rule) (subs : List Shape) → list_all is_tame top ≡ true → list_all (is_good top) subs ≡ true
+whole_is_simple : (top : List Rule) (subs : List Shape) → list_all is_tame top ≡ true → list_all (is_good top) subs ≡ true
     → is_simple_and_free (record { top = record program_words.0 { rules = top }; subs = subs }) ≡ true
-told top subs tame good =
+whole_is_simple top subs tame good =
     let parts = split top subs good in
     let rules = (top ++ help_rule ∷ []) ++ version_rule ∷ [] in
     let order = ordered rules (more_tame (top ++ help_rule ∷ []) version_rule (more_tame top help_rule tame refl) refl) in
@@ -179,4 +184,4 @@ pub mcsim_is_simple : (a : App) → IsMcsim a → is_simple_and_free a ≡ true
 mcsim_is_simple a is =
     let top = tame_rules a.top.rules program_words.1 (ap (λ w. w.1) is.top) refl in
     let same : a ≡ record { top = record program_words.0 { rules = a.top.rules }; subs = a.subs } = ap (λ t. record a { top = t }) (same_shape a.top program_words is.top) in
-    subst (λ x. is_simple_and_free x ≡ true) (sym same) (told a.top.rules a.subs top (all_good a.top.rules a.subs lines is.commands table_is_tame))
+    subst (λ x. is_simple_and_free x ≡ true) (sym same) (whole_is_simple a.top.rules a.subs top (all_good a.top.rules a.subs lines is.commands table_is_tame))

@@ -14,7 +14,7 @@ use Rattle.mc_cli.specs.declared.command.table.Group.TheVariants as groups
 abbrev pub Entry : Type 0
 Entry = Rule × Option (List (List ℕ))
 
--- What is told by its place; an option that is given or not, that has a value, that has one each time that it is given, or one of these.
+-- A word that is known by its place; an option that is given or not, that has a value, that has one each time that it is given, or one of these.
 abbrev pub place : List ℕ → Entry
 place name = (new_rule name, None)
 
@@ -151,7 +151,7 @@ program_words = (
   flag (codes "verbose") ∷ [],
 )
 
--- What clap reads of an argument and of a command, so told.
+-- What clap reads of an argument and of a command, in these terms.
 abbrev pub values_of : Option ValueParser → Option (List (List ℕ))
 values_of None = None
 values_of (Some (parsers.Names names)) = Some (map (λ name. name.now) names.now)

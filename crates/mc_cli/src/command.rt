@@ -32,6 +32,7 @@ Numbers are decimal, or hexadecimal as 0x200.
 Signatures, encryption and hashes other than SHA-256 are out of scope.";
 
 /// Reads the words of a command line, the program's name first.
+/// Promised: clap reads of any words what its definitions say of this program (`Parses`, `IsMcsim`).
 ///
 /// # Errors
 ///

@@ -14,6 +14,7 @@ pub trait KnownFiles: Files {
     ghost holds: { Self → Holds };
 
     /// Opens the file of a path, to be read from its beginning.
+    /// Promised: a file is opened of which it is known what it holds (`left`, `unknown`).
     ///
     /// # Errors
     ///
@@ -24,6 +25,7 @@ pub trait KnownFiles: Files {
         ensures unknown { OnErr result (holds self.now path.now ≡ None) };
 
     /// Whether two paths lead to one file, as far as that is known. A file of which it is known what it holds has one path.
+    /// Promised: files in memory are one only by one path (`same`, `one_path`, `MayBeOne`).
     fn is_same_file(&self, first: &str, second: &str) -> bool
         ensures same { first.now ≡ second.now → result ≡ true }
         ensures one_path { result ≡ true → MayBeOne (holds self.now) first.now second.now };

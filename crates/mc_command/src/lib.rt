@@ -32,6 +32,8 @@ pub use tears::TearsAsked;
 
 /// Runs one command line, whose first word is the program's name, and returns the exit status: 0 where it is done, 1
 /// where a content is refused, 2 where the command line is refused, 3 where a file, a write or memory fails.
+/// Promised: text and status are those of the command that the words of a line name, with what they give it (`runs`, `RunsLine`,
+/// `status_at`).
 ///
 /// What a buffer holds of `out` is handed on before it returns, and before the line of a refusal. A refusal is one line on `err`, or clap's own
 /// text; with `--verbose` a second line has its reason, where that is known. A failed write to `err` changes no status.
@@ -189,6 +191,7 @@ fn follows_text(done: &Result<(), Refusal>) -> bool
 
 /// Runs the command of that name, and hands on what a buffer holds of its text, also before a refusal. With `named` a report of an image adds
 /// the usual names of its entries on `err`.
+/// Promised: what clap found for a command is answered or refused, and the text handed on (`RunsWhole`, `end_after`).
 ///
 /// # Errors
 ///

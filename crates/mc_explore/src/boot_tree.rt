@@ -36,6 +36,8 @@ impl FlashTree for BootTree<'_> {
         }
     }
 
+    /// How many children a node has.
+    /// Promised, also of `first_child`, `next`, `root` and `child`: boots in one round or two are a tree (`model_of`, `tree_of`).
     fn width(self, summary: &Both) -> u32 {
         // Reading a field gives the prover that it is a layout, so that the sum is small.
         let _sector = self.one_round.start.layout().sector();

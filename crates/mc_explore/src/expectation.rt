@@ -24,6 +24,7 @@ pub enum Wanted {
 
 impl Wanted {
     /// What a text says: a version, `none`, or a digest in 64 lower-case digits.
+    /// Promised: what a slot is to hold is read (`wants`, `taken`).
     ///
     /// # Errors
     ///
@@ -75,6 +76,7 @@ impl Expectation {
     }
 
     // Whether each slot holds what is wanted of it.
+    #[inline(always)]
     fn is_met(&self, outcome: &Outcome) -> bool
         ensures { result ≡ is_met self.now (shown outcome.now) }
     {
@@ -82,6 +84,7 @@ impl Expectation {
     }
 
     /// Whether a boot ends well, and each slot holds what is wanted of it.
+    #[inline(always)]
     pub fn is_right(&self, outcome: &Outcome) -> bool
         ensures { result ≡ is_right self.now (shown outcome.now) }
     {

@@ -33,6 +33,10 @@ impl<'a, F: Flash> Model for Explorer<'a, F> {
 impl<'a, F: Flash + Drop> Explorer<'a, F> {
     /// An explorer at the start. It takes its own memory here, and none later but through the flash, which it loads for
     /// one boot more than there are cuts.
+    /// Promised, also of `TreeExplorer::start`: an explorer begins with all rows to come (`ok`).
+    /// Promised, also of `after`, `resume` and `next_row`: `(k+1) L` entries, `(k+1) (3T + 3 nmax) sector` bytes, `k+2` checkpoints at most
+    /// (`exact`, `limits`).
+    /// Promised, also of `after` and `resume`: no operation at the start, at most `2 (k+1) L` to go on (`applied`).
     ///
     /// # Errors
     ///
@@ -55,6 +59,7 @@ impl<'a, F: Flash + Drop> Explorer<'a, F> {
     }
 
     /// An explorer that goes on after a schedule, straight down along its cuts. It takes memory as one at the start does.
+    /// Promised, also of `TreeExplorer::after`: goes on after a key, as after its cursor (`resumes`).
     ///
     /// # Errors
     ///
@@ -80,6 +85,7 @@ impl<'a, F: Flash + Drop> Explorer<'a, F> {
 
     /// An explorer that goes on after the schedule of a cursor, straight down along its cuts. It takes memory as one at
     /// the start does.
+    /// Promised, also of `TreeExplorer::resume`: goes on after a cursor; else the first of 56, 61, 57, 58 (`resumes`).
     ///
     /// # Errors
     ///
@@ -103,6 +109,10 @@ impl<'a, F: Flash + Drop> Explorer<'a, F> {
     }
 
     /// The row of the next schedule, and none where there is no further one.
+    /// Promised, also of `TreeExplorer::next_row`: the first row past the position, or none (`found`, `moved`).
+    /// Promised, also of `TreeExplorer::next_row`: 52 only if the flash does not count; then 54 for ever (`explores`, `Explores`, `err`).
+    /// Promised, also of `TreeExplorer::next_row`: a row adds at most `L + 2`; in two rounds `2 L + 3` with the confirmation (`applied`).
+    /// Promised, also of `TreeExplorer::next_row`: `next_row` takes no memory and never returns 52 (`explores`, `cause`).
     ///
     /// # Errors
     ///

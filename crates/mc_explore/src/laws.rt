@@ -6,6 +6,7 @@ ghost use Rattle.mc_explore.specs.Rows.{after_key, State, ShownRow, moved_to, Is
 
 /// Past each position there is one ascending list of rows, and no other. After its first row the others are to come. Its
 /// order is that of the cuts, and not of how many they are.
+/// Promised: one ascending list of rows, not by length (`some`, `only`, `tail`, `order`, `longer_first`).
 pub fn one_list_of_rows()
     ensures some { (state : State) → (rows : List ShownRow) × IsRest state rows }
     ensures only { (state : State) (xs ys : List ShownRow) → IsRest state xs → IsRest state ys → xs
@@ -24,6 +25,7 @@ pub fn one_list_of_rows()
 
 /// Pages join up: the rows of pages that are continued from their cursors are a prefix of the rows to come where the first one
 /// began, and all of them where the last one says `end`.
+/// Promised: pages join up (`joined`, `resumed`).
 pub fn pages_join_up()
     ensures joined { (limits : List ℕ) (state : State) (whole rows : List ShownRow) (ended : Bool)
         → state.failed ≡ false → All (λ n. 0 < n) limits → IsRest state whole

@@ -37,6 +37,7 @@ impl<'a> OneRound<'a> {
 
     /// Runs the boot at power-on to its end, and gives the summary of the flash where it began. An image that it leaves is hashed
     /// where it is none that the start is known to hold.
+    /// Promised, also of `pass` and `derive`: one round goes from boot to boot (`ran`, `passes`, `summary`, `left`).
     ///
     /// # Errors
     ///

@@ -12,6 +12,7 @@ use std::io::Write;
 /// # Errors
 ///
 /// `Write` where a write fails or takes no bytes.
+#[inline(always)]
 pub(crate) fn write_text<W: Write>(writer: &mut W, text: &[u8]) -> Result<(), ExploreError>
     ensures whole { OnOk result (Appends (W.contents writer.old) (W.contents writer.new) text.now) }
     ensures prefix { OnErr result (AppendsPrefix (W.contents writer.old) (W.contents writer.new)

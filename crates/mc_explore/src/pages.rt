@@ -46,6 +46,7 @@ fn write_lines<F: Flash + Drop, X: Subject, W: Write>(
 
 /// Writes a page of the next rows that come before that key, if one is given. It has at most so many rows, a line each;
 /// then where to go on, or `end` where there are fewer. It takes no memory but through the flash.
+/// Promised: a page up to a key (`page`, `TakesPage`).
 ///
 /// After a full page the explorer is past its rows. After one that says `end` it is also past the next row, if there is
 /// one: that one does not come before the key, and to go on with it resume after the page's last row.
@@ -83,6 +84,9 @@ pub fn write_rows<F: Flash + Drop, X: Subject, W: Write>(
 
 /// Writes the next rows, at most so many, a line each; then where to go on, or `end` where there were fewer. It takes no
 /// memory but through the flash.
+/// Promised, also of `write_rows`: the restart theorem of each row printed (`page`, `began`, `PageIsOut`, `ShownIsOut`).
+/// Promised, also of `write_rows`: a page: rows, then a cursor or `end` (`page`, `explores`).
+/// Promised, also of `write_rows`: at 52, 54, 59 a prefix is out (`began`, `err`, `unwritten`).
 ///
 /// # Errors
 ///

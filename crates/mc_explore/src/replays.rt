@@ -73,6 +73,7 @@ fn follow<'a, F: Flash>(
 }
 
 /// Goes along cuts on a walk from a start: the outcome of the uncut boot after them, and the flash that it leaves.
+/// Promised: a counting flash needs no memory for a replay (`cause`, `counts`).
 ///
 /// # Errors
 ///
@@ -106,6 +107,8 @@ pub fn replay_on<F: Flash>(
 
 /// The outcome of the uncut boot after a schedule of cuts, and the flash that it leaves, which is loaded for one boot more
 /// than there are cuts.
+/// Promised, also of `Explorer::next_row`: the restart theorem of each schedule replayed, and of each row (`restarts`).
+/// Promised: a schedule's outcome and flash, or 53 and which cut (`replayed`, `geometry`, `exact`).
 ///
 /// # Errors
 ///
@@ -135,6 +138,7 @@ pub fn replay<F: Flash>(
 
 /// The flash as it was when the last cut of a schedule fell, or the start's where there is none. It is loaded for one boot more
 /// than there are cuts.
+/// Promised: the flash at its last cut (`cut`, `geometry`, `exact`).
 ///
 /// # Errors
 ///

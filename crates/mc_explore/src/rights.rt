@@ -37,6 +37,7 @@ impl<K: Copy> RightsOf<K> {
     }
 
     // Counts one row more, of that key, which ends so.
+    #[inline(always)]
     #[tactic(auto, unfolding(crate::specs::Census::cut_number))]
     pub(crate) fn add(&mut self, expectation: &Expectation, key: K, end: &Outcome)
         ensures { self.new ≡ one_judged_more expectation.now key (shown end.now) self.old }

@@ -66,6 +66,7 @@ pub fn put_slots(line: &mut Line, outcome: &Outcome, labels: &Labels)
 
 /// The schedule, the result, the type, how many operations happened, what the slots hold (the version and the size of the
 /// valid image, or `none`), and the next type: one space between, no line feed.
+/// Promised, also of `mc_campaign::CampaignRow::fmt`: rows print as stated (`output`).
 impl fmt::Display for Row {
     ghost output = { λ row. Some (row_text (shown_row row)) };
 

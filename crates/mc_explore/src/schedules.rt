@@ -86,6 +86,7 @@ impl Subject for Schedules {
         row.schedule
     }
 
+    #[inline(always)]
     fn end(row: &Row) -> Outcome
         ensures { shown result ≡ (states.shown_row row.now).outcome }
     {

@@ -102,6 +102,7 @@ fn count<F: Flash, X: Subject>(
 /// What all rows of at most so many cuts that can occur come to, without going through them: its time grows with the operations of
 /// a boot and with the bound, not with the rows. It loads a flash as an explorer does, and keeps a table of the flashes on the way
 /// of each boot that does not go on with the one that was cut.
+/// Promised, also of `count_paths`: a census counts the whole list (`census`, `err`, `cut_off`).
 ///
 /// # Errors
 ///
@@ -123,6 +124,7 @@ pub fn take_census<F: Flash, X: Subject>(
 
 /// How many of all rows of at most so many cuts that can occur come to what is right, and the first that does not. It takes what a
 /// census takes.
+/// Promised, also of `Expectation::is_right`: how many are right, and the first that is not (`rights`, `err`, `is_right`).
 ///
 /// # Errors
 ///

@@ -59,6 +59,7 @@ impl<C: Copy> TallyOf<C> {
     }
 
     // Counts one row more, which ends so.
+    #[inline(always)]
     fn add(&mut self, end: &Outcome)
         requires room { self.old.rows < 2 ^ 32 - 1 }
         requires within { IsWithin self.old }
@@ -76,6 +77,7 @@ impl<C: Copy> TallyOf<C> {
 }
 
 /// Whether each of the rows that a tally counts ends in a boot.
+/// Promised, also of `each_boots` and `all_right`: the verdict is on the rows that are listed (`AllEndInBoot`, `AllEndRight`).
 pub fn all_boot<X: Subject>(tally: &TallyOf<X::Cursor>) -> bool
     ensures { (page : Page X.Shown X.Cursor) → tally.now ≡ tally_by X.subject.ends page
         → (result ≡ true) ↔ AllEndInBoot X.subject.ends page.rows }
@@ -127,6 +129,7 @@ fn tally_line<X: Subject>(tally: &TallyOf<X::Cursor>) -> Line
 
 /// Writes seven lines, or a beginning of them: how many rows, how many of them with each result, the greatest number of operations;
 /// then where to go on, or `end`.
+/// Promised, also of `write_census` and `write_rights`: the lines of a census or a survey, or a prefix (`whole`, `prefix`).
 ///
 /// # Errors
 ///
@@ -183,6 +186,7 @@ pub fn survey_rows<F: Flash + Drop, X: Subject>(
 
 /// Counts the next rows, at most so many: the rows of the page that `write_page` would write. The explorer is where that page
 /// would have left it. It takes no memory but through the flash.
+/// Promised, also of `survey_rows`: a survey of a page, and of what is right (`surveys`, `explores`, `err`).
 ///
 /// # Errors
 ///

@@ -36,6 +36,7 @@ fn schedule_of(line: &[u8]) -> Option<Schedule>
 /// The schedule of the last whole row line of a page that was cut off somewhere, or none where there is none. A whole row
 /// line ends with a line feed, and what stands before its first space is the text of a schedule. An exploration that goes
 /// on after that schedule (`Cursor::of`) gives the rows that are missing. It takes no memory.
+/// Promised: a torn page continues (`exact`, `goes_on`, `until`).
 pub fn last_row(torn: &[u8]) -> Option<Schedule>
     ensures exact { IsLastRow torn.now result }
     // The rows of these lines, and then those of the whole list after the schedule, are those that were to come when the

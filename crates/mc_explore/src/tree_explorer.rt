@@ -63,6 +63,7 @@ impl<'a, F: Flash, X: Subject> Model for TreeExplorer<'a, F, X> {
 impl<'a, F: Flash + Drop, X: Subject> TreeExplorer<'a, F, X> {
     /// An explorer at the start, under a choice. It takes its own memory here, and none later but through the flash, which
     /// it loads for so many boots more than there are cuts as the subject says.
+    /// Promised, also of `after`, `resume` and `next_row`: in two rounds `k+3` in place of `k+1`, `k+4` checkpoints (`exact`, `limits`).
     ///
     /// # Errors
     ///
@@ -138,6 +139,7 @@ impl<'a, F: Flash + Drop, X: Subject> TreeExplorer<'a, F, X> {
 
     /// An explorer that begins with a key: its row comes next. It goes along two paths before, that of the key and that of the one
     /// before it, each over a flash of its own, and then takes memory as one at the start does.
+    /// Promised: begins with a key; 58 exactly where it can't occur (`stands`, `exact`).
     ///
     /// # Errors
     ///

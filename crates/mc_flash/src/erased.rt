@@ -27,6 +27,7 @@ fn blank_words(bytes: &[u8]) -> bool
 }
 
 /// Whether every byte is 0xff, so that any bytes may be written there. It takes no memory.
+/// Promised, also of `blank_lanes`: blank is each byte `0xff`; no allocator (`is_blank`).
 pub fn blank(bytes: &[u8]) -> bool
     ensures { result ≡ is_blank bytes.now }
 {

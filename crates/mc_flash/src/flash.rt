@@ -67,6 +67,8 @@ pub trait Flash: Sized + Drop {
     ghost seen: { Self → Seen };
 
     /// A flash of these bytes, without checkpoints. One that counts has room for so many boots, of that grain.
+    /// Promised: a loaded flash has the bytes, and no checkpoints (`loads`).
+    /// Promised, also of `erase`, `program`, `copy`, `mark` and `back_to`: what the journal counts (`noted_by`, `went_back`).
     fn load(
         alloc: Global,
         layout: &Layout,
@@ -92,6 +94,8 @@ pub trait Flash: Sized + Drop {
         ensures len { length result.now ≡ size_of (seen self.now).geometry slot };
 
     /// Makes a sector 0xff.
+    /// Promised, also of `program` and `copy`: 40 exactly where undefined, 41 only where defined; both change nothing (`Does`).
+    /// Promised, also of `program`, `copy` and `mark`: why 41: no room left, or a failed allocation (`GivesUp`).
     fn erase(&mut self, slot: Slot, sector: u32) -> Result<(), FlashError>
         requires { CanTry (seen self.old).geometry (Erase slot sector) }
         ensures { Does (Erase slot sector) (seen self.old) result (seen self.new) };
@@ -114,6 +118,7 @@ pub trait Flash: Sized + Drop {
         ensures { Does (Copy from at to offset len) (seen self.old) result (seen self.new) };
 
     /// Marks the content, and returns the checkpoint's number.
+    /// Promised, also of `back_to`: checkpoints; going back never fails (`Marks`, `went_back`).
     fn mark(&mut self) -> Result<usize, FlashError>
         ensures { Marks (seen self.old) result (seen self.new) };
 

@@ -68,6 +68,8 @@ fn undo_to(slots: &mut Slots, entries: &mut Vec<Entry>, saved: &mut Vec<u8>, cou
 
 impl JournalFlash {
     /// How many operations can be taken back.
+    /// Promised, also of `saved_bytes`, `marks` and `applied`: the journal's counts can be read (`value`, `applied`).
+    /// Promised, also of `saved_bytes` and `marks`: the journal keeps within its limits (`at_most`).
     pub fn entries(&self) -> u64
         ensures value { result ≡ self.now.usage.counts.entries }
         ensures at_most { result ≤ self.now.usage.limits.entries }

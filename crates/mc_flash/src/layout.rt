@@ -134,6 +134,7 @@ fn are_counts(sector: u32, max_sectors: u32, primary: u32, secondary: u32) -> bo
 
 impl Layout {
     /// A layout of these numbers, or the first reason why they are none.
+    /// Promised: a layout, or the first failed check (`of_numbers`, `refusal_of`).
     pub fn new(
         sector: u32,
         unit: u32,
@@ -255,6 +256,7 @@ impl Layout {
     }
 
     /// The bytes of a slot's trailer, at the slot's end.
+    /// Promised, also of `largest_image`: an image fits exactly up to the largest (`value`, `fits`).
     pub fn trailer_bytes(&self) -> u32
         ensures value { result ≡ trailer_bytes self.now }
         ensures valid { IsLayout self.now }
@@ -263,6 +265,7 @@ impl Layout {
     }
 
     /// The sectors that a slot's trailer takes, at the slot's end.
+    /// Promised, also of `greatest_sectors` and `fits`: trailer sectors, largest image, sizes that fit (`count`, `value`).
     pub fn trailer_sectors(&self) -> u32
         ensures value { result ≡ trailer_sectors self.now }
         ensures valid { IsLayout self.now }

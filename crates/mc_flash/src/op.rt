@@ -35,6 +35,7 @@ impl Model for Bytes16 {
 
 impl Bytes16 {
     /// These bytes, at most 16; none at all is allowed.
+    /// Promised, also of `bytes`: at most 16 bytes are kept (`value`, `at_most`).
     pub fn new(bytes: &[u8]) -> Bytes16
         requires { length bytes.now ≤ 16 }
         ensures { result ≡ bytes.now }

@@ -27,6 +27,8 @@ impl Flash for SnapFlash {
 
     ghost seen = { snap_seen };
 
+    /// A flash with those bytes, without a checkpoint.
+    /// Promised, also of `JournalFlash::load`: copies, or an undo journal, make a flash (`seen`).
     fn load(
         alloc: Global,
         layout: &Layout,

@@ -9,6 +9,7 @@ use std::fmt;
 
 impl Grain {
     /// The grain that a text names: `call` or `unit`. It takes no memory.
+    /// Promised, also of `mc_trailer::Profile::read`: a grain or a profile is read exactly (`grain_text`, `profile_text`).
     pub fn read(text: &str) -> Option<Grain>
         ensures { MatchOption result ((g : Grain) → text.now ≡ grain_text g → ⊥)
             (λ g. text.now ≡ grain_text g) }

@@ -80,6 +80,7 @@ fn answer_of(sealed: &Sealed, total: u16, scan: &EntryScan) -> Result<Judged, Im
 
 impl Judge {
     /// A judge of no bytes.
+    /// Promised, also of `feed` and `finish`: bytes in pieces: the first fault, or version, size, digest (`Judges`, `Finishes`).
     pub fn new() -> Judge
         ensures { Judges result [] }
     {

@@ -10,6 +10,7 @@ ghost use Rattle.mc_image.specs.declared.judge.Judged.{Judged};
 
 /// One reading: bytes have no fault exactly where an image is encoded at their start, and that image and that prefix
 /// are then the only ones.
+/// Promised: one reading: no fault exactly where one image begins (`begins`, `only`, `one`).
 pub fn one_reading()
     ensures begins { (b : List ℕ) → IsBytes b → first_fault b ≡ None → Begins b (image_in b) }
     ensures only { (b : List ℕ) (v : Image) → Begins b v → first_fault b ≡ None }
@@ -17,6 +18,7 @@ pub fn one_reading()
 {}
 
 /// The test of a valid image, the identity and the last fault are those of the one image that the bytes begin with.
+/// Promised: test, identity and last fault are that image's (`valid`, `same`, `none`, `fault`).
 pub fn valid_bytes()
     ensures valid { (b : List ℕ) → IsBytes b → (is_valid b ≡ true) ↔ IsValid b }
     ensures same { (b : List ℕ) (h : IsValid b) → id_of b ≡ Some (identity h.image) }
@@ -25,6 +27,7 @@ pub fn valid_bytes()
 {}
 
 /// Byte lists that agree as far as the image goes that one of them begins with begin with the same image.
+/// Promised: bytes that agree with an image begin with it (`begins`, `id`).
 pub fn same_prefix()
     ensures begins { (b c : List ℕ) (v : Image) → Begins b v
         → take (length (image_text v)) c ≡ take (length (image_text v)) b → Begins c v }
@@ -33,6 +36,7 @@ pub fn same_prefix()
 {}
 
 /// Any cut: judges that were fed one list of bytes, however it was cut into pieces, answer the same.
+/// Promised: pieces give the same however they are cut (`Finishes`).
 pub fn any_cut()
     ensures { (pieces others : List (List ℕ)) → concat pieces ≡ concat others
         → (first second : Judge) → Judges first (concat pieces) → Judges second (concat others)

@@ -23,6 +23,8 @@ pub struct Version {
 impl Version {
     /// The version that a text names: `major[.minor[.revision[+build]]]`, decimal numbers without leading zeros,
     /// missing ones 0.
+    /// Promised: versions are read exactly, and read back (`exact`, `only`, `printed`, `IsForm`).
+    /// Promised: `Range` exactly for a number too large, else `Syntax` (`range`, `exact`).
     ///
     /// # Errors
     ///
@@ -55,6 +57,8 @@ impl Version {
     }
 }
 
+/// The four numbers, as `1.2.3+4`.
+/// Promised: a version prints its four numbers (`version_line`).
 impl fmt::Display for Version {
     ghost output = { λ v. Some (version_line v) };
 

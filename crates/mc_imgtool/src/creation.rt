@@ -222,6 +222,9 @@ fn bytes_for(alloc: Global, options: &CreateOptions, input: &[u8]) -> Result<Vec
 /// Reads a payload and writes its image: flags, load address and padding 0, the header filled up with zeros, a
 /// protected area where there is a security counter, the digest as the only plain entry, and the slot filled up after
 /// it where `pad` or `confirm` asks for it (imgtool, `create`).
+/// Promised: the created bytes, a valid image, or a refusal and nothing written (`answer`, `valid`, `never`).
+/// Promised: 22 exactly where a slot to fill has no size; nothing is read (`slot`, `unread`).
+/// Promised, also of `verify` and `dumpinfo`: at 25 a prefix is out (`Answers`).
 ///
 /// # Errors
 ///

@@ -11,6 +11,7 @@ use std::io::Read;
 pub(crate) const GREATEST_INPUT: u32 = 1 << 24;
 
 /// The whole input, if it has at most `limit` bytes. It takes at most one byte more than the limit.
+/// Promised: input whole, or refused exactly where too long (`whole`, `refused`, `longer`, `taken`).
 ///
 /// # Errors
 ///

@@ -144,6 +144,7 @@ fn report_for(alloc: Global, input: &[u8]) -> Result<String, ToolError>
 /// Reads an image, which other bytes may follow, and writes its report: a line for each field of the header, one for
 /// each entry, the protected ones first, then the image's size, how many bytes follow it, and whether its digest is
 /// good (imgtool, `dumpinfo`).
+/// Promised: the report; or 23, or a fault, and nothing written (`answer`).
 ///
 /// # Errors
 ///

@@ -74,6 +74,8 @@ fn judge_input<R: Read>(input: &mut R) -> Result<Judged, ToolError>
 
 /// Reads an image, which other bytes may follow, and writes one line: `good`, its version, its size in bytes and its
 /// digest (imgtool, `verify`). It takes no memory, and reads all of the input.
+/// Promised: the good line; or 23, a fault, or 12, and nothing written; never 26 (`answer`, `memory`).
+/// Promised, also of `dumpinfo`: never 20, 21 or 22, whatever the reader (`never`).
 ///
 /// # Errors
 ///

@@ -130,6 +130,10 @@ impl<F: Flash> Device<F> {
     }
 
     /// The running image erases a sector of the secondary.
+    /// Promised, also of `store`, `download`, `write`, `request`, `confirm`, `mark`, `cut` and `boot`: each event leads on as `Leads` says
+    /// (`goes`, `Goes`).
+    /// Promised, also of `store`, `download`, `write`, `request`, `confirm`, `mark`, `cut` and `boot`: an event is refused exactly for its
+    /// reason, or for memory (`refused`).
     ///
     /// # Errors
     ///
@@ -207,6 +211,7 @@ impl<F: Flash> Device<F> {
 
     /// The power comes on, and is lost within the operation of that number, of which the next boot reads this. An erase that is torn wears its
     /// sector as a whole one does.
+    /// Promised: a tear leaves a case's flash; else 53 or 93 exactly (`torn`, `refused`).
     ///
     /// # Errors
     ///
@@ -236,6 +241,7 @@ impl<F: Flash> Device<F> {
     }
 
     /// The power comes on, and is lost after so many operations, once for each number; and then the boot is left alone.
+    /// Promised: a boot's outcome is the uncut boot's after its cuts (`outcome`).
     ///
     /// # Errors
     ///
@@ -262,6 +268,7 @@ impl<F: Flash> Device<F> {
 
     /// The running image erases the secondary and writes a file from its start, all of it, or until it is stopped after so many
     /// bytes.
+    /// Promised, also of `write`: downloads and writes only of bytes that are there and fit (`allowed`).
     ///
     /// # Errors
     ///

@@ -224,6 +224,7 @@ fn of_words<'a>(name: &'a str, rest: &'a str) -> Option<Event<'a>>
 
 impl<'a> Event<'a> {
     /// The event that a text states, if it states one. The text is what a line of a script says.
+    /// Promised: a line is an event that it states, or none (`ReadsEvent`, `States`, `sayings`).
     pub fn read(line: &'a str) -> Option<Event<'a>>
         ensures { ReadsEvent line.now result }
     {

@@ -194,6 +194,8 @@ fn failure(error: LineError, number: u32, line: u32) -> LifeError
 /// Replays what happens to a device from a start on, by a script: a line for each event, with its number, its words as the script
 /// has them, for a boot its result, its type and how many operations happened, then the primary's image, whether that is on trial,
 /// the secondary's image, and the type of the next boot. The device at the end. At the start the power is off.
+/// Promised: a life's lines, or those before a failure and a prefix (`replayed`, `failed`).
+/// Promised: whatever the script: the device lives on, by profile 3 with tears too (`lives`, `torn`).
 ///
 /// The images that the start and the first six files begin with are hashed once.
 ///

@@ -56,6 +56,7 @@ fn file_in(line: &str) -> Option<&str>
 
 impl Script {
     /// Reads a script to the reader's end.
+    /// Promised: a script is read whole; 23 above 2^24 bytes, 84 for no text (`reads`, `end`, `taken`).
     ///
     /// # Errors
     ///
@@ -82,6 +83,7 @@ impl Script {
     }
 
     /// The names of the files that its events name, in their order and as often as they do.
+    /// Promised: the files that a script names (`Names`).
     ///
     /// # Errors
     ///

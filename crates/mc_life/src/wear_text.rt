@@ -71,6 +71,7 @@ fn slot_line(name: &str, most: Most, all: u64) -> Line
 }
 
 /// Writes a line for each slot: how often its most erased sector was erased, the first such sector, and how often all were.
+/// Promised: erases are counted up to the largest `u64` (`whole`, `prefix`).
 ///
 /// # Errors
 ///

@@ -89,6 +89,7 @@ impl NumberOption {
     }
 
     /// The number that the arguments give, or none where the option is left out.
+    /// Promised: decimal or hexadecimal, each in its range (`MayGiveNumber`, `GivesNoNumber`).
     ///
     /// # Errors
     ///

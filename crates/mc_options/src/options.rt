@@ -205,6 +205,8 @@ pub struct FlashOptions<'a> {
 }
 
 /// The source, the layout and the rules that the options give. They are checked in this order.
+/// Promised, also of `layout_options`: 70, or the first check that a layout fails; `call` and 1 by default (`given`, `judged`,
+/// `GivesRules`).
 ///
 /// # Errors
 ///
@@ -294,6 +296,8 @@ pub struct ExploreOptions {
 }
 
 /// The most cuts of a schedule.
+/// Promised, also of `explore_options`, `span_options` and `view_options`: numbers, extents and spans are taken wherever given (`given`,
+/// `taken`).
 ///
 /// # Errors
 ///
@@ -440,6 +444,7 @@ fn gives_two(arguments: &ArgMatches<'_>) -> bool
 }
 
 /// Where an exploration begins, and where it stops. That only one option says where it begins is checked first.
+/// Promised: ranges and cursors are taken wherever given (`given`, `taken`, `two`).
 ///
 /// # Errors
 ///

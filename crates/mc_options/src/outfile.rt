@@ -30,6 +30,7 @@ pub struct Outfile<'f, 'p, F: Files> {
 
 impl<'f, 'p, F: Files> Outfile<'f, 'p, F> {
     /// The file of that path, made, or emptied first.
+    /// Promised, also of `beside`, `in_new_folder` and `end`: why a file is not written (`IsUnmade`, `refused`).
     ///
     /// # Errors
     ///

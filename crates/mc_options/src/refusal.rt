@@ -238,6 +238,7 @@ impl From<WriteFailed> for Refusal {
 impl Refusal {
     /// The exit status: 1 where a content is refused, 2 where the command line is, 3 where a file, a write or memory
     /// fails.
+    /// Promised, also of `report`: the status of each refusal (`exact`, `status_of`).
     pub fn status(&self) -> u8
         ensures exact { result ≡ status_of self.now }
         ensures range { (1 ≤ result) × (result ≤ 3) }

@@ -16,6 +16,7 @@ pub const GREATEST_IMAGE: u32 = 1 << 24;
 pub const GREATEST_FLASH: u32 = 1 << 25;
 
 /// All bytes of a file.
+/// Promised: what a file holds, at most so many bytes (`bytes`, `refused`, `Reads`, `RefusesFile`).
 ///
 /// # Errors
 ///
@@ -39,6 +40,7 @@ pub fn read_file<F: KnownFiles>(
 }
 
 /// The start of a source, under the rules that are given. The first image is read before the second is opened.
+/// Promised: the start of what files hold, the first image's before the second's (`given`, `refused`, `OfSource`).
 ///
 /// # Errors
 ///

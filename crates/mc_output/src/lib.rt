@@ -19,6 +19,7 @@ pub struct WriteFailed;
 /// # Errors
 ///
 /// `WriteFailed` where a write fails or takes no bytes.
+#[inline(always)]
 pub fn write_text<W: Write>(writer: &mut W, text: &[u8]) -> Result<(), WriteFailed>
     ensures whole { OnOk result (Appends (W.contents writer.old) (W.contents writer.new) text.now) }
     ensures prefix { OnErr result

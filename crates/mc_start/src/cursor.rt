@@ -30,6 +30,7 @@ pub struct Cursor {
 impl Cursor {
     /// The cursor that goes on after a schedule, of a start and at most so many cuts: the one that a page which ends with
     /// the row of that schedule names. It takes no memory.
+    /// Promised: a schedule's cursor is the page's (`cursor_of`).
     pub fn of(start: &Start, bound: u8, schedule: &Schedule) -> Cursor
         requires { bound ≤ 16 }
         ensures { result ≡ cursor_of (begun start.now) bound schedule.now }

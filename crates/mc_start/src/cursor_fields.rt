@@ -12,6 +12,7 @@ use mc_output::{Line, MOST_LINE};
 use mc_trailer::{Profile, Rules};
 
 /// The field before the first colon of a text, and what follows that.
+/// Promised, also of `RulesField::read` and `StartField::read`: the fields that cursors share (`some`, `only`).
 pub fn next_field(text: &str) -> Option<(&str, &str)>
     ensures some { IfSome result (λ found. text.now ≡ found.0.now ++ 58 ∷ found.1.now) }
     ensures only { (field rest : List ℕ) → Lacks 58 field → text.now ≡ field ++ 58 ∷ rest

@@ -29,6 +29,7 @@ impl Cursor {
     /// The cursor that a text says: `mc1:` for whole calls and the first profile, else `mc2:`, the grain (`call`, `unit`),
     /// `:`, the profile (`1`, `2`, `3`) and `:`; then the start's digest in 64 lower-case digits, `:`, the most cuts (0 to 16),
     /// `:`, and the schedule. It takes no memory.
+    /// Promised, also of `fmt`: cursors of at most 16 cuts read exactly, and print (`exact`, `only`, `at_most`, `output`).
     ///
     /// # Errors
     ///

@@ -54,6 +54,7 @@ fn cut_of(text: &str) -> Result<u32, ScheduleError>
 impl Schedule {
     /// The schedule that a text says: `-` for no cut, else 1 to 16 numbers below 2^32 without leading zeros, with points
     /// between them. It takes no memory.
+    /// Promised, also of `fmt`: schedules read exactly, and print (`exact`, `only`, `output`).
     ///
     /// # Errors
     ///

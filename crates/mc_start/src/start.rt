@@ -170,6 +170,7 @@ impl Start {
     /// The start of two images: the first in the primary, the second in the secondary, and what that kind of start asks
     /// for. Bytes after an image are left out. For `Revert` it is what the whole swap of the exchanged images for a test
     /// leaves. Its boots go by whole calls and the first profile.
+    /// Promised: the start of two images, or the first of A's and B's faults and 50 (`Starts`).
     ///
     /// # Errors
     ///
@@ -217,6 +218,7 @@ impl Start {
 
     /// The start from the bytes of both slots, the primary's first. Its boots go by whole calls and the first profile. What the
     /// slots hold is hashed here, and again nowhere.
+    /// Promised: the start of a flash; 51 exactly by its length, 52 last (`Gives`, `of_flash`).
     ///
     /// # Errors
     ///
@@ -281,6 +283,7 @@ impl Start {
     }
 
     /// The same start under other rules. Its flash stays as it is. It takes no memory.
+    /// Promised, also of `named`: a start's rules, and the images that it names (`named`).
     pub fn with_rules(self, rules: Rules) -> Start
         ensures { result ≡ record {
           geometry = self.geometry;
@@ -326,6 +329,7 @@ impl Start {
 
     /// What distinguishes starts in a cursor: the SHA-256 of the layout's line, a line feed, the primary and the secondary.
     /// It takes no memory.
+    /// Promised: a start's digest (`start_digest`).
     pub fn digest(&self) -> [u8; 32]
         ensures { result ≡ start_digest (begun self.now) }
     {

@@ -154,6 +154,7 @@ fn is_read_so<F: Flash>(
 
 /// Whether a reading is a case of an operation before which the flash stands; then the buffer holds what it makes of the bytes that
 /// the operation writes. The flash stays as it is.
+/// Promised, also of `put_torn`: which readings are cases, and their flash (`is`, `stays`, `put`).
 ///
 /// # Errors
 ///

@@ -191,6 +191,7 @@ impl Reading {
     }
 
     /// The reading of a text. It takes no memory.
+    /// Promised: readings are read exactly (`reading_text`).
     pub fn read(text: &str) -> Option<Reading>
         ensures { MatchOption result
             ((n : ℕ) → n < 192 → text.now ≡ reading_text (reading_of n) → ⊥)

@@ -67,6 +67,7 @@ pub(crate) fn put_case<F: Flash>(
 
 /// The flash that a loss of power in the boot from a start leaves. None where it can't occur: the boot has no such operation, or that no such
 /// case.
+/// Promised: a case's flash, exactly where the boot has it (`content`, `geometry`).
 ///
 /// # Errors
 ///

@@ -322,6 +322,7 @@ impl Search {
 }
 
 /// The start that losses of power leave, one after another, from which the next boot begins. None where they can't occur.
+/// Promised, also of `write_lost`: the start that losses leave, and the table (`after_losses`, `whole`, `prefix`).
 ///
 /// # Errors
 ///
@@ -350,6 +351,7 @@ pub fn start_after<F: Flash + Drop>(
 
 /// The flashes that at most so many losses of power leave, before operations and within them, each once, in the order of their first losses:
 /// the fewest first, and of as many the first in their order. A flash is known by its digest.
+/// Promised: the distinct flashes that losses leave (`cases`, `whole`, `Covers`, `EndsAsOne`).
 ///
 /// # Errors
 ///

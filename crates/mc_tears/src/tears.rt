@@ -177,6 +177,7 @@ fn counts_line(operations: u32, cases: u64) -> Line
 /// cases these have, and a line for each case, or for each that ends otherwise than after a power cut before the operation or behind it:
 /// the operation's number, what is read, how the boot from there ends, and whether the flash that it leaves says that a swap is under way
 /// (docs/FORMAT.md, "Torn operations"). Whether each case is right. It takes one flash and the bytes of a slot.
+/// Promised: a boot's cases, in order, and whether each is right (`whole`, `prefix`, `right`, `cause`).
 ///
 /// # Errors
 ///

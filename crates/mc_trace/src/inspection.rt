@@ -295,6 +295,7 @@ fn inspection_of<F: Flash>(
 /// blank, or why it holds none; what lies in each sector of a slot, by what lies in those of a named flash of the same layout, those that go on
 /// with one another as one, or where there is none by what is blank and what is the trailer's; the first operation of the boot from there, as a
 /// trace has it; and its outcome. The text is made in memory.
+/// Promised: a dump explained (`whole`, `prefix`, `none`, `err`).
 ///
 /// # Errors
 ///

@@ -140,6 +140,7 @@ fn boots_line(layout: &Layout, times: Option<Times>) -> Line
 /// operations that a boot may have; and how often that swap erases one sector at most, of each slot, in its trailer and before it.
 /// Where the times of the flash are given, it also writes how long that swap takes, and how long the revert of the same images, which
 /// no boot takes longer than, in microseconds. It takes no memory.
+/// Promised: a layout; no boot takes longer than its revert (`whole`, `prefix`, `longest`, `LongestLaw`, `err`).
 ///
 /// # Errors
 ///

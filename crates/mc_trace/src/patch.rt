@@ -157,6 +157,7 @@ fn write_slot<W: Write>(
 /// Writes how a flash differs from that of a start: a line for each sector that is not what it was, the primary's first. A line has
 /// the slot and the sector's number, and then `blank`, or the slot and the number of the first sector of the start that held the same,
 /// or the bytes in hexadecimal digits. It takes no memory.
+/// Promised: a patch, which gives the flash back (`written`, `back`, `err`).
 ///
 /// # Errors
 ///

@@ -117,6 +117,7 @@ fn write_page<F: Flash, W: Write>(
 /// Writes a page that a browser shows: what all schedules of at most 16 cuts come to, and how many of them are right; then for each boot
 /// of a schedule the rows of its operations up to the cut that lie in a span, each with the flash before it, cell by cell, what a cut there
 /// comes to, and whether that is right; and the outcome of the last boot. It loads a flash as an explorer does, and takes no memory for the text.
+/// Promised: a schedule's page (`drawn`, `begun`, `refused`, `occurs`, `cause`, `IsPicture`).
 ///
 /// # Errors
 ///

@@ -113,6 +113,7 @@ fn picture_of<F: Flash>(
 /// Writes what lies in each sector of a flash: the one when the last cut of a schedule fell, or the one that the boot after it
 /// leaves. It has a line for each slot, a word for each sector: `-` is blank; `aN` and `bN` are what sector N of the start's primary
 /// or secondary held, the first such; what else there is says `Words`. The text is made in memory.
+/// Promised: what each sector holds (`Pictures`).
 ///
 /// # Errors
 ///

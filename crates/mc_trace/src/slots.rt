@@ -10,6 +10,7 @@ use mc_output::write_text;
 use std::io::Write;
 
 /// Writes the bytes of both slots of a flash, the primary's first. It takes no memory.
+/// Promised: a flash's bytes (`whole`, `prefix`, `err`).
 ///
 /// # Errors
 ///

@@ -39,6 +39,7 @@ impl Span {
 /// Writes what happens of a schedule: a line for each boot with its number, counted from 0, and its type; those of its operations that
 /// lie in a span, a line each, with the number that a cut counts; at a cut the operation that did not happen; and at the end the
 /// outcome of the last boot.
+/// Promised: a schedule, operation by operation (`written`, `prefix`, `refused`, `occurs`, `cause`).
 ///
 /// # Errors
 ///

@@ -44,6 +44,7 @@ fn without_blank_end<F: Flash>(flash: &F) -> u32
 }
 
 /// The highest status entry of the primary that is written: one whose bytes are not all 0xff. It takes no memory.
+/// Promised: the highest written entry, or none (`value`, `highest`).
 #[tactic(auto, using(crate::specs::facts::Entries::highest_is, crate::specs::facts::Entries::greatest_at, crate::specs::facts::Entries::none_passes))]
 pub fn highest_entry<F: Flash>(flash: &F) -> Option<u32>
     ensures value { result ≡ highest_entry (F.seen flash.now).geometry (F.seen flash.now).content }

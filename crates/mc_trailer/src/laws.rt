@@ -21,6 +21,7 @@ pub fn one_row()
 {}
 
 /// What is written for a field is read back, and what is written elsewhere keeps it.
+/// Promised, also of `highest_after_a_write`: fields read back; writes elsewhere keep them (`reads`, `keeps`, `after`, `one`).
 pub fn fields_read_back()
     ensures reads { ReadsBack }
     ensures keeps { WritesKeep }

@@ -36,6 +36,7 @@ fn before_end(field: Field) -> u32
 }
 
 /// The first byte of a field, from the slot's start. It takes no memory.
+/// Promised, also of `entry_place`: fields and entries, in the slot, at whole units (`place`, `inside`, `aligned`).
 #[tactic(auto, using(crate::specs::facts::Places::place_inside, crate::specs::facts::Places::place_aligned))]
 pub fn place(layout: &Layout, slot: Slot, field: Field) -> u32
     ensures place { result ≡ place layout.now slot field }

@@ -80,6 +80,7 @@ fn is_reverted(profile: Profile, primary: &Trailer, secondary: &Trailer) -> bool
 }
 
 /// The type that the tables give, also where a boot would go on with a swap that was cut. It takes no memory.
+/// Promised, also of `one_row`: the type is the tables'; no two rows hold (`value`, `row`, `apart`, `types`).
 #[tactic(auto, using(crate::specs::facts::Tables::asked))]
 pub fn swap_type(profile: Profile, primary: &Trailer, secondary: &Trailer) -> SwapType
     ensures value { result ≡ swap_type profile primary.now secondary.now }
@@ -106,6 +107,7 @@ fn asks_another(profile: Profile, primary: &Trailer, secondary: &Trailer) -> boo
 }
 
 /// Whether a boot goes on with a swap that was cut. It takes no memory.
+/// Promised, also of `resumes`: a swap is resumed exactly by the three conditions (`resumes_by`, `resumes`).
 pub fn resumes_by(profile: Profile, primary: &Trailer, secondary: &Trailer) -> bool
     ensures { result ≡ resumes_by profile primary.now secondary.now }
 {

@@ -95,6 +95,7 @@ fn field_byte<F: Flash>(flash: &F, slot: Slot, field: Field) -> u8
 
 impl Trailer {
     /// The trailer of a slot. It takes no memory.
+    /// Promised, also of `magic_of_a_trailer`: a trailer's fields are those of the bytes (`trailer_of`, `magic_bytes`).
     #[tactic(auto, unfolding(crate::specs::Trailer::trailer_of))]
     pub fn read<F: Flash>(flash: &F, slot: Slot) -> Trailer
         ensures { result ≡ trailer_of (F.seen flash.now).geometry (F.seen flash.now).content slot }

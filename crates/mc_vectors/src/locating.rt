@@ -214,6 +214,7 @@ fn nearest<F: Flash>(
 /// and of those that are as long the first in their order. Where none differs, the schedule leaves the given flash itself.
 /// Flashes are taken for distinct by their digests, as `find_cases` does. It takes the memory of `find_cases`, and that of one
 /// flash more at a time.
+/// Promised: the flash nearest to a dump (`nearest`, `whole`, `differs`, `same`).
 ///
 /// # Errors
 ///

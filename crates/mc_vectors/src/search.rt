@@ -209,6 +209,7 @@ impl Search {
 
 /// The flashes that schedules of at most so many cuts leave, each once, in the order of their first schedules: the shortest
 /// first, and of those that are as long the first in their order. A flash is known by its digest.
+/// Promised: the distinct flashes that cuts leave (`cases`, `whole`, `AreCases`, `Covers`).
 ///
 /// # Errors
 ///

@@ -100,6 +100,7 @@ impl Case {
 /// Writes the cases as a table: a line of names, and then one for each, with tabs between: the schedule, the digest of the flash, the
 /// result and the type of the boot from there, how many operations it makes, the images that it leaves in the primary and in the
 /// secondary, or `none`, the next type, and the digest of the flash that it leaves. It takes no memory.
+/// Promised, also of `write_located`: the texts of cases, and of what is nearest (`whole`, `prefix`).
 ///
 /// # Errors
 ///

@@ -160,6 +160,7 @@ impl Wanted<()> {
 }
 
 /// What its rows come to.
+/// Promised: a census names the shortest row that does not boot, or is not right (`counts`, `IsShortest`).
 ///
 /// # Errors
 ///

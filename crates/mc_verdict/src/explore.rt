@@ -221,6 +221,7 @@ pub fn ask<X: Explorable, F: KnownFiles>(
 /// Prints a page of rows: one for each schedule, or campaign, of at most so many cuts that can occur, in their order, from the first,
 /// or from or after the one that the options name, up to one that the options name. Where something is asked of the rows, they are counted once more,
 /// and how many are right follows, and the first that is not.
+/// Promised, also of `survey`: page, survey, census answered, or a stated refusal (`AnswersPage`, `AnswersSurvey`, `AnswersCensus`).
 ///
 /// # Errors
 ///

@@ -164,6 +164,7 @@ impl Asked {
     }
 
     /// Looks whether a layout can have a verdict: with fewer sectors in the trailer than in a slot the boot loader swaps nothing.
+    /// Promised: a verdict asked of a layout that never swaps: 89, exactly (`refused`).
     ///
     /// # Errors
     ///

@@ -81,6 +81,7 @@ impl<F: Flash, B: FlashTree> Tour<F, B> {
     }
 
     /// Goes on to the next node, if there is one, and returns whether there is.
+    /// Promised, also of `leave`: a tour visits or skips; an error is final (`visits`, `costs`).
     ///
     /// # Errors
     ///

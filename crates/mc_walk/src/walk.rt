@@ -43,6 +43,10 @@ impl<F: Flash, B: FlashTree> Model for Walk<F, B> {
 
 impl<F: Flash, B: FlashTree> Walk<F, B> {
     /// Marks the root, which is what the flash contains.
+    /// Promised, also of `begin`, `go_down`, `climb`, `advance` and `follow`: a walk goes depth first, within its bound (`step`, `begins`,
+    /// `fresh`, `of`).
+    /// Promised, also of `begin`, `go_down`, `climb`, `advance` and `follow`: a walk takes what is stated, and nothing without a path
+    /// (`spends`, `spent`).
     ///
     /// # Errors
     ///
@@ -89,6 +93,7 @@ impl<F: Flash, B: FlashTree> Walk<F, B> {
     }
 
     /// The summary of the node at which it stands.
+    /// Promised, also of `last_step` and `label`: where a walk is (`IsThere`, `step`, `none`, `labelled`).
     pub fn summary(&self) -> &B::Summary
         requires { self.now.stands ≡ true }
         ensures { IsThere (B.model self.now.flash_tree) self.now result.now }
