@@ -1,10 +1,10 @@
 -- What `explain` is asked for, and what explains it.
-use Rattle.std.specs.Prelude.{All, List, None, Ok, Option, codes, decimal, flat_map, map, ℕ, ⊤, ◌++◌, ◌∷◌, ◌≡◌, ◌⊎◌}
+use Rattle.std.specs.Prelude.{Bool, List, None, Ok, Option, [], bytes_eq, codes, decimal, flat_map, if◌then◌else◌, map, true, ℕ, ◌++◌, ◌==◌, ◌∷◌, ◌≡◌, ◌≢◌, ◌⊎◌}
 use Rattle.std.specs.{Char.{to_ascii_lowercase}, Str.Parse.{ParsesUnsigned}, declared.num.ParseIntError.{ParseIntError}}
 use Rattle.clap.specs.{Words.{first_value}, declared.parser.matches.Found.{Found}}
 use Rattle.mc_actions.specs.declared.explain.Explained.{Explained}
 use Rattle.mc_actions.specs.declared.explain.Explained.TheVariants as asked
-use Rattle.mc_cli.specs.declared.explanations.Explanation.{Explanation}
+use Rattle.mc_cli.specs.{Explanations.{all_refusals, entry_of}, declared.explanations.Explanation.{Explanation}}
 use Rattle.mc_options.specs.{Refusals.{HasText}, Requests.{End, IsAnswered, IsDone, IsUnwritten}, declared.refusal.Refusal.{Refusal}}
 use Rattle.mc_options.specs.declared.refusal.Refusal.TheVariants as refusals
 
@@ -22,10 +22,10 @@ GivesExplained found (asked.Number n) = HasText found (codes "NUMBER") (IsNumber
 GivesExplained found (asked.Named name) = HasText found (codes "NUMBER") (λ text. text ≡ name.now)
 
 -- A refusal is one of these. A name may be in capital or small letters.
-abbrev pub Takes : Explained → Explanation → Type 0
-Takes asked.All e = ⊤
-Takes (asked.Number n) e = e.number ≡ n
-Takes (asked.Named name) e = map to_ascii_lowercase e.name.now ≡ map to_ascii_lowercase name.now
+abbrev pub takes : Explained → Explanation → Bool
+takes asked.All e = true
+takes (asked.Number n) e = e.number == n
+takes (asked.Named name) e = bytes_eq (map to_ascii_lowercase e.name.now) (map to_ascii_lowercase name.now)
 
 -- Its number, its name and the status of a command that ends with it; then when it comes, and what to do.
 abbrev pub head_text : Explanation → List ℕ
@@ -40,15 +40,25 @@ text_of asked.All e = head_text e
 text_of (asked.Number n) e = head_text e ++ rest_text e
 text_of (asked.Named name) e = head_text e ++ rest_text e
 
--- Explanations that are asked for. That these are the tables', and all of them, is not said: a table of texts has no name in a clause.
+-- What is said of a refusal, if it is one of these.
+abbrev pub said_of : Explained → Explanation → List ℕ
+said_of x e = if takes x e then text_of x e else []
+
+-- The explanations of all refusals, by their numbers, and the text of those that are asked for.
 pub record Explains (x : Explained) (text : List ℕ) : Type 0 where
   pub explanations : List Explanation
-  pub taken : All (Takes x) explanations
-  pub text_is : text ≡ flat_map (text_of x) explanations
+  pub are : map entry_of explanations ≡ all_refusals
+  pub text_is : text ≡ flat_map (said_of x) explanations
+
+-- There is some.
+pub record ExplainsSome (x : Explained) : Type 0 where
+  pub text : List ℕ
+  pub explains : Explains x text
+  pub some : text ≢ []
 
 -- No refusal has that number or name, or an allocation failed.
-abbrev pub RefusesExplained : Refusal → Type 0
-RefusesExplained e = (e ≡ refusals.Unexplained) ⊎ (e ≡ refusals.Memory)
+abbrev pub RefusesExplained : Explained → Refusal → Type 0
+RefusesExplained x e = ((e ≡ refusals.Unexplained) × Explains x []) ⊎ (e ≡ refusals.Memory)
 
 abbrev pub AnswersExplained : Explained → Option (List ℕ) → Option (List ℕ) → End → Type 0
-AnswersExplained x = IsAnswered (λ (a : (text : List ℕ) × Explains x text). a.0) IsDone RefusesExplained IsUnwritten
+AnswersExplained x = IsAnswered (λ (a : ExplainsSome x). a.text) IsDone (RefusesExplained x) IsUnwritten

@@ -3,7 +3,7 @@ use Rattle.std.specs.Prelude.{Bool, List, Option, codes, false, true, ℕ, ◌++
 use Rattle.mc_boot.specs.Plan.{PowerOn}
 use Rattle.mc_flash.specs.{Geometry.{Geometry}, declared.flash.FlashError.{FlashError}, declared.op.Slot.TheVariants.{Primary, Secondary}}
 use Rattle.clap.specs.declared.parser.matches.Found.{Found}
-use Rattle.mc_options.specs.{Refusals.{LacksLayout, LacksTimes}, Requests.{End, IsAnswered, IsDone, IsUnwritten}, declared.refusal.Refusal.{Refusal}}
+use Rattle.mc_options.specs.{Arguments.{GivesLayout}, Refusals.{InTurn, LacksLayout, LacksTimes}, Requests.{End, IsAnswered, IsDone, IsUnwritten}, declared.refusal.Refusal.{Refusal}}
 use Rattle.mc_options.specs.declared.refusal.Refusal.TheVariants as refusals
 use Rattle.mc_start.specs.Start.{Started, begun}
 use Rattle.mc_trace.specs.{LayoutText.{layout_text}, declared.wear.Times.{Times}}
@@ -12,7 +12,7 @@ use Rattle.mc_trailer.specs.{Tables.{resumes_by, swap_type, trailer_text, type_t
 
 -- The words give no layout, or not how long its flash takes.
 abbrev pub LacksTimedLayout : Found → Refusal → Type 0
-LacksTimedLayout found e = LacksLayout found e ⊎ LacksTimes found e
+LacksTimedLayout found = InTurn (GivesLayout found) (LacksLayout found) (λ layout. LacksTimes found)
 
 -- Nothing is refused once the words are read.
 abbrev pub AnswersLayout : Geometry → Option Times → Option (List ℕ) → Option (List ℕ) → End → Type 0

@@ -6,7 +6,7 @@ use Rattle.mc_boot.specs.declared.kind.Kind.TheVariants as starts
 use Rattle.mc_cli.specs.Files.{Holds, MayBeOne}
 use Rattle.mc_flash.specs.{Flash.{Content, size_of}, Geometry.{Geometry}, declared.op.Slot.TheVariants.{Secondary}}
 use Rattle.mc_life.specs.{Device.{Counts, OfWear, Standing}, Replay.{FailsLife, IsReplayed}, Script.{Named, Names, Reads as ReadsScript, file_of, sayings}, declared.life.LifeError.{LifeError}, declared.error.ScriptError.{ScriptError}}
-use Rattle.mc_options.specs.{Arguments.{GivesLayout, GivesRules, IsFlag, KeepsFiles}, Refusals.{HasText, IsLost, LacksLayout, LacksRules}, Requests.{End}, Sources.{FailsFlash, IsFlashed, Reads, RefusesFile}, declared.refusal.Refusal.{Refusal}}
+use Rattle.mc_options.specs.{Arguments.{GivesLayout, GivesRules, IsFlag, KeepsFiles}, Refusals.{HasText, InTurn, IsLost, LacksLayout, LacksRules}, Requests.{End}, Sources.{FailsFlash, IsFlashed, Reads, RefusesFile}, declared.refusal.Refusal.{Refusal}}
 use Rattle.mc_options.specs.declared.refusal.Refusal.TheVariants as refusals
 use Rattle.mc_output.specs.Text.{AppendsPrefix}
 use Rattle.mc_start.specs.{Start.{Gives, Started, Starts, of_flash}, declared.start.StartError.{StartError}}
@@ -109,18 +109,21 @@ pub record RefusesScriptFile (holds : Holds) (script : List ℕ) (out : Option (
 abbrev pub FailsShelf : Holds → List ℕ → Option (List ℕ) → Refusal → Type 0
 FailsShelf holds script out e = RefusesScriptFile holds script out e ⊎ (e ≡ refusals.Memory)
 
--- Why the words of `life`, its files and its script ask for nothing.
-abbrev pub LacksDelivered : Holds → Found → Refusal → Type 0
-LacksDelivered holds found e = LacksDevice found e ⊎ ((g : Geometry) × GivesLayout found g × FailsDevice holds found g e)
+-- Why the words of `life` and its files give no device; and why these, or its script, ask for nothing.
+abbrev pub LacksDelivered : Holds → Found → Geometry → Refusal → Type 0
+LacksDelivered holds found g e = IsLost found e ⊎ (KeepsFiles found × (LacksDevice found e ⊎ FailsDevice holds found g e))
 
-abbrev pub LacksShelf : Holds → Option (List ℕ) → Found → Refusal → Type 0
-LacksShelf holds input found e =
-    (script : List ℕ) × GivesScript holds input found (Ok script) × FailsShelf holds script (first_value found (codes "out")) e
+abbrev pub LacksDelivery : Holds → Found → Refusal → Type 0
+LacksDelivery holds found =
+    InTurn (GivesLayout found) (LacksLayout found) (λ layout. InTurn (GivesRules found) (LacksRules found) (λ rules. LacksDelivered holds found layout))
+
+abbrev pub GivesDelivery : Holds → Found → Started → Type 0
+GivesDelivery holds found s = GivesLayout found s.geometry × GivesRules found s.rules × GivesDevice holds found s.geometry s.content × KeepsFiles found
 
 abbrev pub LacksLife : Holds → Option (List ℕ) → Found → Refusal → Type 0
-LacksLife holds input found e =
-    (LacksLayout found e ⊎ LacksRules found e)
-    ⊎ ((IsLost found e ⊎ LacksDelivered holds found e) ⊎ (FailsScript holds input found e ⊎ LacksShelf holds input found e))
+LacksLife holds input found =
+    InTurn (GivesDelivery holds found) (LacksDelivery holds found) (λ start.
+    InTurn (λ script. GivesScript holds input found (Ok script)) (FailsScript holds input found) (λ script. FailsShelf holds script (first_value found (codes "out"))))
 
 -- What was erased is out, where that is asked for.
 abbrev pub IsWearOut : Bool → Counts → Option (List ℕ) → Option (List ℕ) → Type 0

@@ -1,14 +1,14 @@
 -- What is asked of a campaign of two rounds, and what answers it.
 use Rattle.std.specs.Prelude.{List, Option, Some, codes, ℕ, ◌++◌, ◌≡◌, ◌⊎◌}
 use Rattle.clap.specs.{Words.{first_value}, declared.parser.matches.Found.{Found}}
-use Rattle.mc_actions.specs.{Schedules.{HasOutput, IsFlashUnwritten}, declared.rounds.Campaigned.{Campaigned}, declared.rounds.RoundText.{RoundText}, declared.schedule.Outputs.{Outputs}}
+use Rattle.mc_actions.specs.{Schedules.{HasOutput, IsFlashUnwritten, LosesOrFails}, declared.rounds.Campaigned.{Campaigned}, declared.rounds.RoundText.{RoundText}, declared.schedule.Outputs.{Outputs}}
 use Rattle.mc_actions.specs.declared.rounds.RoundText.TheVariants as texts
 use Rattle.mc_boot.specs.{Outcome.{Report, outcome_text}, Plan.{PowerOn}}
 use Rattle.mc_campaign.specs.{Campaigns.{AreReplayed, BeginsSecond, RefusesCampaign, in_round}, Rows.{Restarts}, Texts.{campaign_text}}
 use Rattle.mc_cli.specs.Files.{Holds}
 use Rattle.mc_explore.specs.declared.replays.ReplayError.{ReplayError}
 use Rattle.mc_flash.specs.Flash.{Content}
-use Rattle.mc_options.specs.{Arguments.{IsFlag, KeepsFiles}, Refusals.{FailsCampaign, HasText, IsLost, LacksFlash, LacksOption}, Requests.{End, IsAnswered, IsDone, IsUnwritten}, Sources.{FailsStart, GivesStart}}
+use Rattle.mc_options.specs.{Arguments.{GivesFlash, IsFlag, KeepsFiles}, Refusals.{FailsCampaign, HasText, InTurn, LacksFlash, LacksOption}, Requests.{End, IsAnswered, IsDone, IsUnwritten}, Sources.{GivesStart}}
 use Rattle.mc_options.specs.declared.refusal.Refusal.{Refusal}
 use Rattle.mc_options.specs.declared.refusal.Refusal.TheVariants as refusals
 use Rattle.mc_start.specs.Start.{begun}
@@ -22,10 +22,14 @@ pub record GivesCampaign (holds : Holds) (found : Found) (c : Campaigned) : Type
   pub confirms : IsFlag found (codes "confirm") c.confirms
   pub kept : KeepsFiles found
 
+-- They give no campaign; or no source, or a file is refused.
+abbrev pub LacksKey : Found → Refusal → Type 0
+LacksKey found e = LacksOption found (codes "schedule") e ⊎ HasText found (codes "schedule") (λ text. FailsCampaign text e)
+
 abbrev pub LacksCampaign : Holds → Found → Refusal → Type 0
-LacksCampaign holds found e =
-    LacksFlash found e
-    ⊎ ((LacksOption found (codes "schedule") e ⊎ HasText found (codes "schedule") (λ text. FailsCampaign text e)) ⊎ (IsLost found e ⊎ FailsStart holds found e))
+LacksCampaign holds found =
+    InTurn (GivesFlash found) (LacksFlash found) (λ options.
+    InTurn (λ campaign. first_value found (codes "schedule") ≡ Some (campaign_text campaign)) (LacksKey found) (λ campaign. LosesOrFails holds found options))
 
 -- Each round under a line of its own.
 abbrev pub rounds_text : List ℕ → List ℕ → List ℕ

@@ -6,8 +6,8 @@ use Rattle.mc_boot.specs.Outcome.{Report, outcome_text}
 use Rattle.mc_cli.specs.Files.{Holds}
 use Rattle.mc_explore.specs.{Schedules.{CannotOccurAt, IsReplayed, RefusesReplay, Restarts}, declared.replays.ReplayError.{ReplayError}}
 use Rattle.mc_flash.specs.Flash.{Content}
-use Rattle.mc_options.specs.{Arguments.{KeepsFiles, MayGiveSchedule}, Refusals.{FailsSchedule, HasText, IsLost, LacksFlash, LacksOption, LacksSpan, LacksView}, Outfiles.{IsUnfinished}, Requests.{End, IsAnswered, IsDone, IsUnwritten}, Sources.{FailsStart, GivesStart}}
-use Rattle.mc_options.specs.declared.refusal.Refusal.{Refusal}
+use Rattle.mc_options.specs.{Arguments.{GivesFlash, GivesSpan, GivesView, KeepsFiles, MayGiveSchedule}, Refusals.{FailsSchedule, HasText, InTurn, IsLost, LacksFlash, LacksOption, LacksSpan, LacksView}, Outfiles.{IsUnfinished}, Requests.{End, IsAnswered, IsDone, IsUnwritten}, Sources.{FailsSource, GivesStart}}
+use Rattle.mc_options.specs.{declared.options.FlashOptions.{FlashOptions}, declared.refusal.Refusal.{Refusal}}
 use Rattle.mc_options.specs.declared.refusal.Refusal.TheVariants as refusals
 use Rattle.mc_start.specs.Start.{begun, schedule_text}
 use Rattle.mc_trace.specs.{Sectors.{IsAt, picture}, Trace.{trace_text}}
@@ -25,9 +25,15 @@ pub record GivesBoot (holds : Holds) (found : Found) (s : Scheduled) : Type 0 wh
   pub schedule : codes "-" ≡ schedule_text s.schedule
   pub kept : KeepsFiles found
 
--- They give none, or no start, or one of their files is not to be lost; the text of a schedule is the one that is read.
+-- A file that is read is not to be lost; or a file of the source is refused.
+abbrev pub LosesOrFails : Holds → Found → FlashOptions → Refusal → Type 0
+LosesOrFails holds found o e = IsLost found e ⊎ (KeepsFiles found × FailsSource holds o.layout o.source e)
+
+-- They give no source, or no schedule, whose text is the one that is read; or its files are refused.
 abbrev pub LacksFrom : List ℕ → Holds → Found → Refusal → Type 0
-LacksFrom text holds found e = LacksFlash found e ⊎ (FailsSchedule text e ⊎ (IsLost found e ⊎ FailsStart holds found e))
+LacksFrom text holds found =
+    InTurn (GivesFlash found) (LacksFlash found) (λ options.
+    InTurn (λ cuts. text ≡ schedule_text cuts) (FailsSchedule text) (λ cuts. LosesOrFails holds found options))
 
 abbrev pub LacksScheduled : Holds → Found → Refusal → Type 0
 LacksScheduled holds found e =
@@ -35,10 +41,10 @@ LacksScheduled holds found e =
 
 -- Besides, which operations are shown, or which view of the sectors.
 abbrev pub LacksTraced : Holds → Found → Refusal → Type 0
-LacksTraced holds found e = LacksSpan found e ⊎ LacksScheduled holds found e
+LacksTraced holds found = InTurn (GivesSpan found) (LacksSpan found) (λ span. LacksScheduled holds found)
 
 abbrev pub LacksViewed : Holds → Found → Refusal → Type 0
-LacksViewed holds found e = LacksView found e ⊎ LacksScheduled holds found e
+LacksViewed holds found = InTurn (GivesView found) (LacksView found) (λ view. LacksScheduled holds found)
 
 -- They name the files that flashes go to.
 pub record GivesOutputs (found : Found) (o : Outputs) : Type 0 where

@@ -5,7 +5,7 @@ use Rattle.mc_actions.specs.{Layouts.{yes_or_no}, declared.vectors.Cuts.{Cuts}, 
 use Rattle.mc_actions.specs.declared.vectors.Table.TheVariants as tables
 use Rattle.mc_cli.specs.Files.{Holds}
 use Rattle.mc_explore.specs.declared.error.ExploreError.TheVariants as errors
-use Rattle.mc_options.specs.{Arguments.{IsFlag}, Numbers.{GivesNumber}, Refusals.{HasText, LacksFlash, LacksRequired}, Requests.{End, IsAnswered, IsDone, IsUnwritten}, Sources.{FailsStart, GivesStart}}
+use Rattle.mc_options.specs.{Arguments.{GivesFlash, IsFlag}, Numbers.{GivesNumber}, Refusals.{HasText, InTurn, LacksFlash, LacksRequired}, Requests.{End, IsAnswered, IsDone, IsUnwritten}, Sources.{FailsSource, GivesStart}}
 use Rattle.mc_options.specs.declared.refusal.Refusal.{Refusal}
 use Rattle.mc_options.specs.declared.refusal.Refusal.TheVariants as refusals
 use Rattle.mc_start.specs.Start.{begun}
@@ -58,8 +58,11 @@ abbrev pub LacksFolder : Found → Refusal → Type 0
 LacksFolder found e = (e ≡ refusals.Argument) × IsFlag found (codes "patches") true × (first_value found (codes "dir") ≡ None)
 
 abbrev pub LacksVectors : Holds → Found → Refusal → Type 0
-LacksVectors holds found e =
-    (LacksFlash found e ⊎ LacksCuts found e) ⊎ ((LacksTorn found e ⊎ LacksFolder found e) ⊎ FailsStart holds found e)
+LacksVectors holds found =
+    InTurn (GivesFlash found) (LacksFlash found) (λ options.
+    InTurn (GivesCuts found) (LacksCuts found) (λ cuts.
+    InTurn (GivesTorn found) (LacksTorn found) (λ torn.
+    InTurn (GivesFolder found) (LacksFolder found) (λ folder. FailsSource holds options.layout options.source))))
 
 pub record GivesVectors (holds : Holds) (found : Found) (a : VectorsAsked) : Type 0 where
   pub start : GivesStart holds found a.start

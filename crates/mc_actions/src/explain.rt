@@ -1,7 +1,7 @@
 //! `explain`: what a refusal means.
-ghost use Rattle.std.specs.Prelude.{◌≡◌, ◌↔◌, ◌++◌, ℕ, List, [], true, string_bytes, IfOk, IfSome, OnOk};
+ghost use Rattle.std.specs.Prelude.{◌≡◌, ◌++◌, flat_map, string_bytes, IfOk, IfSome, OnOk};
 ghost use Rattle.clap.specs.Matches.{found_of};
-ghost use Rattle.mc_actions.specs.Explained.{AnswersExplained, Explains, GivesExplained, IsNumbered, Takes, text_of};
+ghost use Rattle.mc_actions.specs.Explained.{AnswersExplained, Explains, GivesExplained, IsNumbered, said_of, takes, text_of};
 
 use clap::ArgMatches;
 use mc_cli::{Explanation, all_explanations};
@@ -48,7 +48,7 @@ impl<'p> Explained<'p> {
 
     /// Whether a refusal is one of these.
     fn takes(&self, explanation: &Explanation) -> bool
-        ensures { (result ≡ true) ↔ Takes self.now explanation.now }
+        ensures { result ≡ takes self.now explanation.now }
     {
         match self {
             Explained::All => true,
@@ -85,8 +85,8 @@ impl<'p> Explained<'p> {
         explanation: &Explanation,
         text: &mut String,
     ) -> Result<(), AllocError>
-        ensures { OnOk result (Explains self.now (string_bytes text.old)
-            → Explains self.now (string_bytes text.new)) }
+        ensures { OnOk result (string_bytes text.new ≡ string_bytes text.old
+            ++ said_of self.now explanation.now) }
     {
         if !self.takes(explanation) {
             return Ok(());
@@ -106,8 +106,8 @@ impl<'p> Explained<'p> {
         explanations: &[Explanation],
         text: &mut String,
     ) -> Result<(), AllocError>
-        ensures { OnOk result (Explains self.now (string_bytes text.old)
-            → Explains self.now (string_bytes text.new)) }
+        ensures { OnOk result (string_bytes text.new ≡ string_bytes text.old
+            ++ flat_map (said_of self.now) explanations.now) }
     {
         for explanation in explanations {
             self.add(alloc, explanation, text)?;
@@ -132,6 +132,7 @@ impl<'p> Explained<'p> {
 
     /// Prints what these refusals mean: of each its number, its name and the status of a command that ends with it; where not all are
     /// asked for also when it comes, and what to do.
+    /// Promised: the explanations that are asked for, all of them, in order (`AnswersExplained`, `Explains`).
     ///
     /// # Errors
     ///
@@ -140,7 +141,7 @@ impl<'p> Explained<'p> {
         ensures { AnswersExplained self.now (O.contents out.old) (O.contents out.new) result }
     {
         let text = self.whole_text(alloc)?;
-        if text.is_empty() {
+        if text.as_str().is_empty() {
             return Err(Refusal::Unexplained);
         }
         write_text(out, text.as_str().as_bytes())?;

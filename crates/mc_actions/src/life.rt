@@ -1,10 +1,9 @@
 //! `life`: what happens to a device, replayed event by event.
 ghost use Rattle.std.specs.Prelude.{◌≡◌, ◌≢◌, ◌≤◌, ◌⊎◌, ℕ, List, Option, IfErr, IfOk, MatchResult, OnErr, OnOk, length, option_map};
 ghost use Rattle.clap.specs.Matches.{found_of};
-ghost use Rattle.mc_actions.specs.Lives.{AddsFile, AnswersLife, FailsAlone, FailsDevice, FailsFile, FailsScript, FailsShelf, GivesDevice, GivesLife, GivesScript, HoldsAlone, IsShelfOf, IsWearOut, LacksDevice, LacksLife, StopsLife};
+ghost use Rattle.mc_actions.specs.Lives.{AddsFile, AnswersLife, FailsAlone, FailsDevice, FailsFile, FailsScript, FailsShelf, GivesDelivery, GivesDevice, GivesLife, GivesScript, HoldsAlone, IsShelfOf, IsWearOut, LacksDelivery, LacksDevice, LacksLife, StopsLife};
 ghost use Rattle.mc_life.specs.Device.{OfWear};
 ghost use Rattle.mc_life.specs.Replay.{IsReplayed};
-ghost use Rattle.mc_options.specs.Arguments.{GivesLayout, GivesRules, KeepsFiles};
 ghost use Rattle.mc_output.specs.Text.{AppendsPrefix};
 
 use crate::infile::open_infile;
@@ -85,13 +84,8 @@ fn read_device<F: KnownFiles>(
     alloc: Global,
     arguments: &ArgMatches<'_>,
 ) -> Result<Start, Refusal>
-    ensures layout { IfOk result (λ start. GivesLayout (found_of arguments.now) start.geometry) }
-    ensures rules { IfOk result (λ start. GivesRules (found_of arguments.now) start.rules) }
-    ensures device { IfOk result (λ start. GivesDevice (F.holds files.now)
-        (found_of arguments.now) start.geometry start.content) }
-    ensures kept { OnOk result (KeepsFiles (found_of arguments.now)) }
-    ensures refused { (input : Option (List ℕ)) → IfErr result (LacksLife (F.holds files.now) input
-        (found_of arguments.now)) }
+    ensures given { IfOk result (GivesDelivery (F.holds files.now) (found_of arguments.now)) }
+    ensures refused { IfErr result (LacksDelivery (F.holds files.now) (found_of arguments.now)) }
 {
     let layout = layout_options(arguments)?;
     let rules = rules_options(arguments)?;

@@ -1,11 +1,11 @@
 //! `replay`, `trace` and `sectors` of a campaign of two rounds of boots.
-ghost use Rattle.std.specs.Prelude.{IfErr, IfOk, List, ℕ, MatchResult, OnErr, OnOk};
+ghost use Rattle.std.specs.Prelude.{◌≡◌, IfErr, IfOk, List, ℕ, MatchResult, OnErr, OnOk, Some, codes};
 ghost use Rattle.std.specs.Io.KnownBytes.{Appends};
-ghost use Rattle.clap.specs.Matches.{found_of};
-ghost use Rattle.mc_actions.specs.Rounds.{AnswersRounds, AnswersShown, BeginsBoth, GivesCampaign, IsCampaignUnwritten, IsRoundText, LacksCampaign, RefusesRounds};
+ghost use Rattle.clap.specs.{Matches.{found_of}, Words.{first_value}};
+ghost use Rattle.mc_actions.specs.Rounds.{AnswersRounds, AnswersShown, BeginsBoth, GivesCampaign, IsCampaignUnwritten, IsRoundText, LacksCampaign, LacksKey, RefusesRounds};
 ghost use Rattle.mc_actions.specs.Schedules.{HasOutput};
 ghost use Rattle.mc_boot.specs.Outcome.{Report};
-ghost use Rattle.mc_campaign.specs.Campaigns.{BeginsSecond, in_round};
+ghost use Rattle.mc_campaign.specs.{Campaigns.{BeginsSecond, in_round}, Texts.{campaign_text}};
 ghost use Rattle.mc_explore.specs.Schedules.{IsReplayed, RefusesReplay};
 ghost use Rattle.mc_flash.specs.Flash.{Content};
 ghost use Rattle.mc_output.specs.Text.{AppendsPrefix};
@@ -42,6 +42,20 @@ pub enum RoundText {
     Sectors(View),
 }
 
+/// The campaign that the words give.
+///
+/// # Errors
+///
+/// `Argument` where they give none; `Campaign`.
+fn campaign_option(arguments: &ArgMatches<'_>) -> Result<Campaign, Refusal>
+    ensures given { IfOk result (λ campaign. first_value (found_of arguments.now)
+        (codes "schedule") ≡ Some (campaign_text campaign)) }
+    ensures refused { IfErr result (LacksKey (found_of arguments.now)) }
+{
+    let campaign = Campaign::read(required(arguments, "schedule")?)?;
+    Ok(campaign)
+}
+
 /// What the commands on a campaign are asked for. The words are checked before a file is touched.
 ///
 /// # Errors
@@ -59,7 +73,7 @@ pub fn read<F: KnownFiles>(
         Ok(options) => options,
         Err(refusal) => return Err(refusal),
     };
-    let campaign = Campaign::read(required(arguments, "schedule")?)?;
+    let campaign = campaign_option(arguments)?;
     check_outputs(files, arguments)?;
     Ok(Campaigned {
         start: read_start(files, alloc, &options)?,

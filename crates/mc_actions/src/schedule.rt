@@ -3,7 +3,7 @@ ghost use Rattle.std.specs.Prelude.{◌≡◌, IfErr, IfOk, OnOk};
 ghost use Rattle.clap.specs.Matches.{found_of};
 ghost use Rattle.mc_actions.specs.Schedules.{GivesOutputs, GivesScheduled, LacksFrom, LacksScheduled};
 ghost use Rattle.mc_start.specs.Start.{schedule_text};
-ghost use Rattle.mc_options.specs.Arguments.{KeepsFiles};
+ghost use Rattle.mc_options.specs.{Arguments.{KeepsFiles}, Refusals.{FailsSchedule}};
 ghost use Rattle.mc_options.specs.Sources.{GivesStart};
 
 use clap::ArgMatches;
@@ -35,6 +35,19 @@ pub fn read_schedule<F: KnownFiles>(
     schedule_from(files, alloc, arguments, required(arguments, "schedule")?)
 }
 
+/// The schedule of a text.
+///
+/// # Errors
+///
+/// `Schedule`.
+fn schedule_of(text: &str) -> Result<Schedule, Refusal>
+    ensures given { IfOk result (λ cuts. text.now ≡ schedule_text cuts) }
+    ensures refused { IfErr result (FailsSchedule text.now) }
+{
+    let schedule = Schedule::read(text)?;
+    Ok(schedule)
+}
+
 /// The start of a source, and the schedule of a text. The words are checked before a file is touched.
 ///
 /// # Errors
@@ -57,7 +70,7 @@ pub fn schedule_from<F: KnownFiles>(
         Ok(options) => options,
         Err(refusal) => return Err(refusal),
     };
-    let schedule = Schedule::read(schedule)?;
+    let schedule = schedule_of(schedule)?;
     check_outputs(files, arguments)?;
     let start = read_start(files, alloc, &options)?;
     Ok(Scheduled { start, schedule })

@@ -5,12 +5,12 @@ use Rattle.std.proofs.lemmas.Grind.{flat_map-append}
 use Rattle.std.specs.Prelude.{Bool, flat_map}
 use Rattle.clap.proofs.SimpleLemmas.{not_empty}
 use Rattle.clap.specs.Built.{AddsArg, AddsSubcommand}
-use Rattle.clap.specs.{Simple.{app_of, new_app, new_shape, shape_of, shape_of_fields}, Walk.{is_empty, rule_of}}
+use Rattle.clap.specs.{Simple.{app_of, new_app, new_shape, shape_of, shape_of_fields}, Walk.{rule_of}}
 use Rattle.clap.specs.declared.builder.{arg.Arg.{Arg}, command.Command.{Command}}
 use Rattle.clap.specs.declared.builder.command.Command.TheViews.{out-Command as fields_of}
 use Rattle.mc_cli.specs.declared.command.table.{Group.{Group}, Subcommand.{Subcommand}, Word.{Word}}
 use Rattle.mc_cli.specs.Program.{Entry, Line, Words, command_words, entry_of, program_words, words_of, words_read}
-use Rattle.mc_cli.specs.inner.Tables.{IsArg, IsCommand, IsProgram, entry_of_word, line_of, program_words_at, with_entries}
+use Rattle.mc_cli.specs.inner.Tables.{IsArg, IsCommand, IsProgram, entry_of_word, line_of, with_entries}
 
 pub added_word : (w : Words) (old new : Command) (a : Arg) (e : Entry) → IsCommand w old → IsArg e a → AddsArg old a new → IsCommand (with_entries w (e ∷ [])) new
 added_word w old new a e is arg adds =

@@ -4,7 +4,7 @@ use Rattle.std.specs.Prelude.{is_some}
 use Rattle.std.specs.List.{list_all, list_any}
 use Rattle.std.proofs.lemmas.Bool.Decides.{nat_tests}
 use Rattle.std.proofs.lemmas.List.Folds.{list_all-append, list_all-map}
-use Rattle.clap.specs.Simple.{App, Shape, built, built_leaf, filled, filled_from, help_rule, help_shape, index_after, inherited, is_buildable, is_in_order, is_ready_leaf, is_simple, is_simple_leaf, marked_built, version_rule, with_index, with_leaf_noted}
+use Rattle.clap.specs.Simple.{App, Shape, built_leaf, filled, filled_from, help_rule, help_shape, index_after, inherited, is_in_order, is_ready_leaf, is_simple_leaf, marked_built, version_rule, with_index, with_leaf_noted}
 use Rattle.clap.specs.Faults.{has_free_rules, is_simple_and_free}
 use Rattle.clap.specs.Walk.{Rule, Text, is_early_multiple}
 use Rattle.clap.specs.declared.builder.{action.ArgAction.{ArgAction}, range.ValueRange.{ValueRange}}

@@ -1,3 +1,4 @@
+pub mod Explanations
 pub mod Files
 pub mod Program
 pub mod inner

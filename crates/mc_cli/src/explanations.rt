@@ -1,4 +1,6 @@
 //! What each refusal means.
+ghost use Rattle.std.specs.Prelude.{◌≡◌, flat_map, map};
+ghost use Rattle.mc_cli.specs.Explanations.{entry_of, of_commands, of_explorations, of_flashes, of_images, of_the_image_tool, all_refusals};
 
 /// What a refusal means: when it comes, and what to do.
 #[derive(Debug)]
@@ -12,7 +14,10 @@ pub struct Explanation {
 }
 
 /// All explanations, by their numbers; `docs/FORMAT.md` has the same tables.
-pub fn all_explanations() -> [&'static [Explanation]; 5] {
+/// Promised: each refusal is explained by its number, name and status (`entry_of`, `all_refusals`).
+pub fn all_explanations() -> [&'static [Explanation]; 5]
+    ensures { flat_map (λ part. map entry_of part.now) result ≡ all_refusals }
+{
     [
         of_images(),
         of_the_image_tool(),
@@ -23,27 +28,37 @@ pub fn all_explanations() -> [&'static [Explanation]; 5] {
 }
 
 /// What is refused of images and versions.
-fn of_images() -> &'static [Explanation] {
+fn of_images() -> &'static [Explanation]
+    ensures { map entry_of result.now ≡ of_images }
+{
     &IMAGES
 }
 
 /// What the image tool refuses.
-fn of_the_image_tool() -> &'static [Explanation] {
+fn of_the_image_tool() -> &'static [Explanation]
+    ensures { map entry_of result.now ≡ of_the_image_tool }
+{
     &IMAGE_TOOL
 }
 
 /// What is refused of layouts and flashes.
-fn of_flashes() -> &'static [Explanation] {
+fn of_flashes() -> &'static [Explanation]
+    ensures { map entry_of result.now ≡ of_flashes }
+{
     &FLASHES
 }
 
 /// What is refused of starts, schedules, explorations and their cursors.
-fn of_explorations() -> &'static [Explanation] {
+fn of_explorations() -> &'static [Explanation]
+    ensures { map entry_of result.now ≡ of_explorations }
+{
     &EXPLORATIONS
 }
 
 /// What is refused of a command line and its files.
-fn of_commands() -> &'static [Explanation] {
+fn of_commands() -> &'static [Explanation]
+    ensures { map entry_of result.now ≡ of_commands }
+{
     &COMMANDS
 }
 

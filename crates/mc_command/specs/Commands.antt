@@ -1,7 +1,6 @@
 -- What the words of each command ask for, and what answers it.
 use Rattle.std.specs.Io.KnownBytes.{Keeps}
-use Rattle.std.specs.List.{list_any}
-use Rattle.std.specs.Prelude.{Bool, Err, List, None, Ok, Option, Some, [], codes, false, if◌then◌else◌, true, ℕ, ⊤, ◌&&◌, ◌≡◌, ◌≤◌, ◌⊎◌}
+use Rattle.std.specs.Prelude.{Bool, Err, List, None, Ok, Option, Result, Some, [], codes, false, if◌then◌else◌, true, ℕ, ⊤, ◌&&◌, ◌≡◌, ◌≤◌, ◌⊎◌}
 use Rattle.clap.specs.{Simple.{App, subcommand_of}, Walk.{Row, rows_of}, Words.{IsAmong, fault_of, first_value}}
 use Rattle.clap.specs.{declared.error.kind.ErrorKind.{ErrorKind}, declared.parser.matches.Found.{Found}}
 use Rattle.clap.specs.declared.error.kind.ErrorKind.TheVariants as clap
@@ -22,8 +21,8 @@ use Rattle.mc_command.specs.declared.request.Request.TheVariants as requests
 use Rattle.mc_explore.specs.Rows.{subject}
 use Rattle.mc_explore.specs.Rows as schedules
 use Rattle.mc_imgtool.specs.Lines.{dumped, verified}
-use Rattle.mc_options.specs.{Arguments.{GivesLayout, GivesSpan, GivesView, IsFlag, IsReady, MayGiveTimes}, Requests.{End, IsRun}, Sources.{GivesStart, LacksStart, RefusesSettings, is_file_word}, Statuses.{status_of}, declared.refusal.Refusal.{Refusal}}
-use Rattle.mc_options.specs.Refusals.{ConfirmsAlone, IsNoCampaign, IsNoSchedule, LacksSpan, LacksView}
+use Rattle.mc_options.specs.{Arguments.{GivesLayout, GivesSpan, GivesView, IsFlag, IsReady, MayGiveTimes}, Requests.{End, IsRun}, LayoutFiles.{RefusesFiles, StandsFor}, Sources.{GivesStart, LacksStart}, Statuses.{status_of}, declared.refusal.Refusal.{Refusal}}
+use Rattle.mc_options.specs.Refusals.{ConfirmsAlone, InTurn, IsNoCampaign, IsNoSchedule, LacksSpan, LacksView}
 use Rattle.mc_options.specs.declared.refusal.Refusal.TheVariants as refusals
 use Rattle.mc_options.specs.declared.options.ExploreOptions.{ExploreOptions}
 use Rattle.mc_verdict.specs.{PagesAsked.{AnswersPage, AnswersSurvey}, Requests.{AnswersCensus}, Sessions.{GivesExploration, GivesWanted, IsNoCampaignCursor, IsNoCursor, LacksCensus, LacksExploration, is_left_alone}, Verdicts.{GivesEnds}}
@@ -97,13 +96,13 @@ LacksRounds One Two holds found e =
     ConfirmsAlone found e ⊎ (((AsksTwo found → ⊥) × One holds found e) ⊎ (AsksTwo found × Two holds found e))
 
 abbrev LacksSchedules : Holds → Found → Refusal → Type 0
-LacksSchedules = LacksExploration IsNoCursor IsNoSchedule
+LacksSchedules = LacksExploration subject IsNoCursor IsNoSchedule
 
 abbrev LacksCampaigns : Holds → Found → Refusal → Type 0
-LacksCampaigns = LacksExploration IsNoCampaignCursor IsNoCampaign
+LacksCampaigns = LacksExploration campaigns IsNoCampaignCursor IsNoCampaign
 
--- Why the words of a command ask for nothing: each refusal by its condition; and which files, or their bytes, are refused. Nothing that `verify`,
--- `dumpinfo` and `explain` take is refused before it is answered.
+-- Why the words of a command ask for nothing: each refusal by its condition, in the order in which words are read; and which files, or their
+-- bytes, are refused, once no word is. Nothing that `verify`, `dumpinfo` and `explain` take is refused before it is answered.
 abbrev pub Lacks : Command → Holds → Found → Refusal → Type 0
 Lacks commands.Create = λ holds. LacksCreation
 Lacks commands.Verify = λ holds found e. ⊥
@@ -112,8 +111,8 @@ Lacks commands.Layout = λ holds. LacksTimedLayout
 Lacks commands.Type = LacksStart
 Lacks commands.Boot = LacksFrom (codes "-")
 Lacks commands.Replay = LacksRounds LacksScheduled LacksCampaign
-Lacks commands.Trace = LacksRounds LacksTraced (λ holds found e. LacksSpan found e ⊎ LacksCampaign holds found e)
-Lacks commands.Sectors = LacksRounds LacksViewed (λ holds found e. LacksView found e ⊎ LacksCampaign holds found e)
+Lacks commands.Trace = LacksRounds LacksTraced (λ holds found. InTurn (GivesSpan found) (LacksSpan found) (λ span. LacksCampaign holds found))
+Lacks commands.Sectors = LacksRounds LacksViewed (λ holds found. InTurn (GivesView found) (LacksView found) (λ view. LacksCampaign holds found))
 Lacks commands.Picture = LacksPicture
 Lacks commands.Tears = LacksTears
 Lacks commands.Vectors = LacksVectors
@@ -146,6 +145,11 @@ IsBounded (requests.CampaignSurvey a e) = IsPageBounded e.extent
 IsBounded (requests.Census w) = w.cuts ≤ 16
 IsBounded (requests.CampaignCensus w) = w.cuts ≤ 16
 IsBounded _ = ⊤
+
+-- What the words of a command give: what they ask for, or why they ask for nothing.
+abbrev pub IsRead : Command → Holds → Found → Result Request Refusal → Type 0
+IsRead command holds found (Ok request) = Asks (command_name command) holds found request × IsBounded request
+IsRead command holds found (Err e) = Lacks command holds found e
 
 -- What is out at the end, and how it ends, where so much is known of standard input.
 abbrev pub Answers : Request → Holds → Option (List ℕ) → Option (List ℕ) → Option (List ℕ) → End → Type 0
@@ -230,10 +234,9 @@ RunsWords words holds input before after failed status =
     ⊎ (((a : App) × IsMcsim a × (kind : ErrorKind) × IsAmong kind (fault_of a words) × AnswersClap kind before after status)
     ⊎ AnswersClap clap.OutOfMemory before after status)
 
--- A line is run: its words; or, where they name a file of a layout, other words, in which its options stand; or that file is refused.
+-- A line is run: its words, in which what the files of layouts give stands before the word that names each; or such a file is refused, or
+-- an allocation failed.
 abbrev pub RunsLine : List (List ℕ) → Holds → Option (List ℕ) → Option (List ℕ) → Option (List ℕ) → Bool → ℕ → Type 0
 RunsLine words holds input before after failed status =
-    RunsWords words holds input before after failed status
-    ⊎ ((list_any is_file_word words ≡ true)
-    × (((others : List (List ℕ)) × RunsWords others holds input before after failed status)
-    ⊎ ((e : Refusal) × RefusesSettings holds e × (status ≡ status_of e) × (after ≡ before))))
+    ((whole : List (List ℕ)) × StandsFor holds words whole × RunsWords whole holds input before after failed status)
+    ⊎ ((e : Refusal) × RefusesFiles holds words e × (status ≡ status_of e) × (after ≡ before))

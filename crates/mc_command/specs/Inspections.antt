@@ -8,7 +8,7 @@ use Rattle.mc_boot.specs.declared.kind.Kind.TheVariants as kinds
 use Rattle.mc_explore.specs.Rows.{subject}
 use Rattle.mc_flash.specs.{Flash.{Content}, Geometry.{Geometry}}
 use Rattle.mc_flash.specs.declared.flash.FlashError.TheVariants as flashes
-use Rattle.mc_options.specs.{Arguments.{GivesLayout, GivesRules, kind_text}, Refusals.{GivesOne, HasText, LacksLayout, LacksOption, LacksRules}, Requests.{End, IsAnswered, IsDone, IsUnwritten}, Sources.{FailsFlash, IsFlashed, Reads, RefusesFile}, declared.refusal.Refusal.{Refusal}}
+use Rattle.mc_options.specs.{Arguments.{GivesLayout, GivesRules, kind_text}, Refusals.{GivesOne, HasText, InTurn, LacksLayout, LacksOption, LacksRules}, Requests.{End, IsAnswered, IsDone, IsUnwritten}, Sources.{FailsFlash, IsFlashed, Reads, RefusesFile}, declared.refusal.Refusal.{Refusal}}
 use Rattle.mc_options.specs.declared.refusal.Refusal.TheVariants as refusals
 use Rattle.mc_start.specs.{Start.{Started, Starts, begun}, declared.start.StartError.{StartError}}
 use Rattle.mc_trace.specs.Inspection.{inspection_text}
@@ -85,11 +85,15 @@ abbrev pub FailsDump : Holds → Words → Refusal → Type 0
 FailsDump holds words e = (g : Geometry) × GivesLayout words g × HasText words (codes "flash") (λ path. FailsFlash holds g path e)
 
 abbrev pub LacksInspect : Holds → Words → Refusal → Type 0
-LacksInspect holds words e = (LacksDump words e ⊎ LacksEnds words e) ⊎ ((NeverJudged words e ⊎ LacksKnown holds words e) ⊎ FailsDump holds words e)
+LacksInspect holds words =
+    InTurn (GivesLayout words) (LacksDump words) (λ layout.
+    InTurn (GivesAsked words) (LacksEnds words) (λ asked e.
+    NeverJudged asked layout e ⊎ (IsJudged asked layout × (LacksKnown holds words e ⊎ FailsDump holds words e))))
 
 abbrev pub LacksLocate : Holds → Words → Refusal → Type 0
-LacksLocate holds words e =
-    (LacksDump words e ⊎ LacksKnown holds words e) ⊎ (((e ≡ refusals.Source) × (first_value words (codes "known-a") ≡ None)) ⊎ FailsDump holds words e)
+LacksLocate holds words =
+    InTurn (GivesLayout words) (LacksDump words) (λ layout e.
+    LacksKnown holds words e ⊎ (((e ≡ refusals.Source) × (first_value words (codes "known-a") ≡ None)) ⊎ FailsDump holds words e))
 
 -- What the slots would hold with the known images, if they are given.
 abbrev pub AreNamed : Inspected → Option Content → Type 0

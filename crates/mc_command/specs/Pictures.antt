@@ -1,16 +1,16 @@
 -- How many operations a picture shows, and how it is answered.
 use Rattle.std.specs.Prelude.{List, Option, [], min, ℕ, ◌+◌, ◌-◌, ◌<◌, ◌∷◌, ◌≡◌, ◌≤◌, ◌⊎◌}
 use Rattle.clap.specs.declared.parser.matches.Found.{Found}
-use Rattle.mc_actions.specs.{Schedules.{LacksScheduled}, declared.schedule.Scheduled.{Scheduled}}
+use Rattle.mc_actions.specs.{Schedules.{LacksTraced}, declared.schedule.Scheduled.{Scheduled}}
 use Rattle.mc_boot.specs.Outcome.{Report}
 use Rattle.mc_cli.specs.Files.{Holds}
 use Rattle.mc_explore.specs.{Schedules.{IsReplayed, RefusesReplay}, declared.replays.ReplayError.{ReplayError}}
 use Rattle.mc_flash.specs.Flash.{Content}
-use Rattle.mc_options.specs.{Refusals.{LacksSpan}, Requests.{End, IsAnswered, IsDone}, declared.refusal.Refusal.{Refusal}}
+use Rattle.mc_options.specs.{Refusals.{InTurn}, Requests.{End, IsAnswered, IsDone}, declared.refusal.Refusal.{Refusal}}
 use Rattle.mc_options.specs.declared.refusal.Refusal.TheVariants as refusals
 use Rattle.mc_start.specs.Start.{begun}
 use Rattle.mc_trace.specs.{Picture.{IsPicture}, declared.error.TraceError.{TraceError}, declared.trace.Span.{Span}}
-use Rattle.mc_verdict.specs.{Verdicts.{LacksEnds, expected_ends}, declared.verdict.Ends.{Ends}}
+use Rattle.mc_verdict.specs.{Verdicts.{GivesEnds, LacksEnds, expected_ends}, declared.verdict.Ends.{Ends}}
 
 -- So many of the first n numbers lie in a span.
 abbrev pub within : Span → ℕ → ℕ
@@ -23,7 +23,7 @@ rows_in span (cut ∷ cuts) last = within span (cut + 1) + rows_in span cuts las
 
 -- The words give none.
 abbrev pub LacksPicture : Holds → Found → Refusal → Type 0
-LacksPicture holds found e = (LacksEnds found e ⊎ LacksSpan found e) ⊎ LacksScheduled holds found e
+LacksPicture holds found = InTurn (GivesEnds found) (LacksEnds found) (λ ends. LacksTraced holds found)
 
 -- That holds of how many operations are seen of a schedule's boots.
 pub record HasRows (s : Scheduled) (span : Span) (Many : ℕ → Type 0) : Type 0 where

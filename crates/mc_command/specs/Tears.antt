@@ -1,5 +1,5 @@
 -- What is asked of torn operations, and how it is answered.
-use Rattle.std.specs.Prelude.{Err, List, None, Option, Some, codes, true, ℕ, ◌<◌, ◌≡◌, ◌⊎◌}
+use Rattle.std.specs.Prelude.{Err, List, None, Option, Some, codes, true, ℕ, ◌<◌, ◌≡◌, ◌≢◌, ◌⊎◌}
 use Rattle.clap.specs.{Words.{first_value}, declared.parser.matches.Found.{Found}}
 use Rattle.mc_actions.specs.{Schedules.{GivesScheduled, IsFlashUnwritten, LacksScheduled}, Vectors.{IsNoErasing}, declared.schedule.Scheduled.{Scheduled}}
 use Rattle.mc_boot.specs.{Outcome.{after}, Plan.{again}}
@@ -8,13 +8,13 @@ use Rattle.mc_command.specs.{declared.tears.CaseFile.{CaseFile}, declared.tears.
 use Rattle.mc_explore.specs.{Schedules.{RefusesReplay}, declared.expectation.Expectation.{Expectation}, declared.replays.ReplayError.{ReplayError}}
 use Rattle.mc_explore.specs.declared.error.ExploreError.TheVariants as errors
 use Rattle.mc_flash.specs.{Flash.{Content}, Geometry.{Geometry}}
-use Rattle.mc_options.specs.{Arguments.{GivesLayout, IsFlag}, Numbers.{GivesNumber}, Refusals.{GivesOne, HasText, LacksLayout, LacksNumber}, Requests.{End, IsAnswered, IsUnwritten}, declared.refusal.Refusal.{Refusal}}
+use Rattle.mc_options.specs.{Arguments.{GivesLayout, IsFlag}, Numbers.{GivesNumber}, Refusals.{GivesOne, HasText, InTurn, LacksLayout, LacksNumber}, Requests.{End, IsAnswered, IsUnwritten}, declared.refusal.Refusal.{Refusal}}
 use Rattle.mc_options.specs.declared.numbers.NumberOption.TheVariants as numbers
 use Rattle.mc_options.specs.declared.refusal.Refusal.TheVariants as refusals
 use Rattle.mc_start.specs.Start.{Started, begun}
 use Rattle.mc_tear.specs.{Readings.{reading_of, reading_text}, declared.torn.Erasing.{Erasing}}
 use Rattle.mc_tear.specs.declared.torn.Erasing.TheVariants as erasings
-use Rattle.mc_tears.specs.{Losses.{lost}, Tears.{all_right, tears_text}, declared.error.TearError.{TearError}, declared.loss.Loss.{Loss}}
+use Rattle.mc_tears.specs.{Losses.{lost}, Tears.{all_right, tears_text}, declared.error.TearError.{TearError}}
 use Rattle.mc_tears.specs.declared.error.TearError.TheVariants as tear_errors
 use Rattle.mc_verdict.specs.{Sessions.{or_any}, Verdicts.{GivesAsked, IsExpectation, IsJudged, LacksEnds, NeverJudged, is_of_slots, verdict_of}, declared.verdict.Asked.{Asked}}
 use Rattle.std.specs.Prelude.{Ok}
@@ -78,28 +78,34 @@ abbrev pub LacksStartAfter : Holds → Found → Asked → Refusal → Type 0
 LacksStartAfter holds found asked e = LacksScheduled holds found e ⊎ (LacksBoot holds found asked e ⊎ (e ≡ refusals.Explore errors.Memory))
 
 abbrev pub LacksTears : Holds → Found → Refusal → Type 0
-LacksTears holds found e =
-    ((LacksLayout found e ⊎ LacksEnds found e) ⊎ (NeverJudged found e ⊎ LacksErasing found e))
-    ⊎ (LacksCase found e ⊎ ((asked : Asked) × GivesAsked found asked × LacksStartAfter holds found asked e))
+LacksTears holds found =
+    InTurn (GivesLayout found) (LacksLayout found) (λ layout.
+    InTurn (GivesAsked found) (LacksEnds found) (λ asked.
+    InTurn (λ (_ : Unit {0}). IsJudged asked layout) (NeverJudged asked layout) (λ _.
+    InTurn (GivesErasing found) (LacksErasing found) (λ erasing.
+    InTurn (GivesCase found) (LacksCase found) (λ case. LacksStartAfter holds found asked)))))
 
--- The flash of a case is to be written; why it is not: there is no such case, or its file fails, or an allocation.
-abbrev pub loss_of : CaseFile → Loss
-loss_of c = record { operation = c.number; within = Some c.reading }
+-- The boot has the case whose flash is to be written.
+abbrev pub HasCase : TearsAsked → CaseFile → Type 0
+HasCase t c = lost t.torn.erasing (begun t.start) (record { operation = c.number; within = Some c.reading }) ≢ None
 
+abbrev pub HasEachCase : TearsAsked → Type 0
+HasEachCase t = (c : CaseFile) → t.file ≡ Some c → HasCase t c
+
+-- Why that flash is not written: there is no such case; or there is, and its file fails; or an allocation failed.
 abbrev pub RefusesCase : TearsAsked → Refusal → Type 0
 RefusesCase t e =
     (c : CaseFile) × (t.file ≡ Some c)
-    × (((e ≡ refusals.NoCase) × (lost t.torn.erasing (begun t.start) (loss_of c) ≡ None))
-    ⊎ (IsFlashUnwritten e ⊎ (e ≡ refusals.Explore errors.Memory)))
+    × (((e ≡ refusals.NoCase) × (HasCase t c → ⊥)) ⊎ ((HasCase t c × IsFlashUnwritten e) ⊎ (e ≡ refusals.Explore errors.Memory)))
 
 -- Why tears are not shown.
 abbrev pub refused_as : TearError → Refusal
 refused_as tear_errors.Memory = refusals.Explore errors.Memory
 refused_as tear_errors.Write = refusals.Write
 
--- They end with the verdict on their cases.
+-- They are shown where the boot has the case that is to be written, and end with the verdict on their cases.
 abbrev pub AnswersTears : TearsAsked → Option (List ℕ) → Option (List ℕ) → End → Type 0
 AnswersTears t =
-    IsAnswered (λ (_ : Unit {0}). tears_text t.torn (begun t.start))
+    IsAnswered (λ (_ : HasEachCase t). tears_text t.torn (begun t.start))
     (λ _ end. end ≡ verdict_of t.asked.all_boot (is_of_slots t.asked) true (all_right t.torn (begun t.start)) true)
     (λ e. (e ≡ refusals.Explore errors.Memory) ⊎ RefusesCase t e) IsUnwritten

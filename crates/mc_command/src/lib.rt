@@ -21,9 +21,7 @@ pub use inspect::{Inspected, LocateAsked};
 use mc_actions::life;
 pub use mc_cli::{KnownFiles, WatchedWriter};
 use mc_cli::{WatchedFiles, left_out, parse};
-use mc_options::{
-    Refusal, asks_file, flush, print_cost, print_note, report_file, report_reason, with_files,
-};
+use mc_options::{Refusal, flush, print_cost, print_note, report_file, report_reason, with_files};
 pub use request::{Command, Request};
 use std::alloc::Global;
 use std::io;
@@ -51,9 +49,6 @@ pub fn run<F: KnownFiles, R: Read, O: Write + Drop, E: Write>(
     ensures range { result ≤ 3 }
 {
     let watched = WatchedFiles::new(files, alloc);
-    if !asks_file(words) {
-        return run_words(watched, alloc, words, input, out, err);
-    }
     match with_files(&watched, alloc, words) {
         Ok(words) => run_words(watched, alloc, words.as_slice(), input, out, err),
         Err(refusal) => {
@@ -66,7 +61,7 @@ pub fn run<F: KnownFiles, R: Read, O: Write + Drop, E: Write>(
     }
 }
 
-/// Runs one command line without `--layout`.
+/// Runs one command line, in which the options of the files of layouts stand.
 fn run_words<F: KnownFiles, R: Read, O: Write + Drop, E: Write>(
     files: WatchedFiles<'_, F>,
     alloc: Global,

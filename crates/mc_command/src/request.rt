@@ -1,8 +1,8 @@
 //! What a command is asked for, and its answer.
-ghost use Rattle.std.specs.Prelude.{◌≡◌, IfErr, IfOk, MatchOption, codes};
+ghost use Rattle.std.specs.Prelude.{◌≡◌, MatchOption};
 ghost use Rattle.clap.specs.Matches.{found_of};
 ghost use Rattle.mc_cli.specs.Files.{Holds};
-ghost use Rattle.mc_command.specs.Commands.{Answers, Asks, IsBounded, Lacks, command_name};
+ghost use Rattle.mc_command.specs.Commands.{Answers, IsBounded, IsRead, command_name};
 
 use crate::inspect::{Inspected, LocateAsked};
 use crate::tears::TearsAsked;
@@ -143,27 +143,23 @@ impl<'p> Request<'p> {
         command: Command,
         arguments: &ArgMatches<'p>,
     ) -> Result<Request<'p>, Refusal>
-        ensures asks { IfOk result (Asks (command_name command) (F.holds files.now)
-            (found_of arguments.now)) }
-        ensures bounded { IfOk result IsBounded }
-        ensures refused { IfErr result (Lacks command (F.holds files.now)
-            (found_of arguments.now)) }
+        ensures { IsRead command (F.holds files.now) (found_of arguments.now) result }
     {
         match command {
-            Command::Create => read_create(arguments),
+            Command::Create => Ok(Request::Create(Creation::read(arguments)?)),
             Command::Verify => Ok(Request::Verify(infile_named(arguments))),
             Command::Dumpinfo => Ok(Request::Dumpinfo(infile_named(arguments))),
             Command::Layout => read_layout(arguments),
-            Command::Type => read_type(files, alloc, arguments),
+            Command::Type => Ok(Request::Type(trailers::read(files, alloc, arguments)?)),
             Command::Boot => read_boot(files, alloc, arguments),
             Command::Replay => read_replay(files, alloc, arguments),
             Command::Trace => read_trace(files, alloc, arguments),
             Command::Sectors => read_sectors(files, alloc, arguments),
             Command::Picture => read_picture(files, alloc, arguments),
-            Command::Tears => read_tears(files, alloc, arguments),
-            Command::Vectors => read_vectors(files, alloc, arguments),
-            Command::Inspect => read_inspect(files, alloc, arguments),
-            Command::Locate => read_locate(files, alloc, arguments),
+            Command::Tears => Ok(Request::Tears(tears::read(files, alloc, arguments)?)),
+            Command::Vectors => Ok(Request::Vectors(vectors::read(files, alloc, arguments)?)),
+            Command::Inspect => Ok(Request::Inspect(inspect::read(files, alloc, arguments)?)),
+            Command::Locate => Ok(Request::Locate(inspect::read_locate(files, alloc, arguments)?)),
             Command::Explore => read_explore(files, alloc, arguments),
             Command::Campaign => read_campaign(files, alloc, arguments),
             Command::Survey => read_survey(files, alloc, arguments),
@@ -229,56 +225,16 @@ impl<'p> Request<'p> {
     }
 }
 
-/// What `create` is asked for.
-///
-/// # Errors
-///
-/// Those of `Creation::read`.
-fn read_create<'p>(arguments: &ArgMatches<'p>) -> Result<Request<'p>, Refusal>
-    ensures asks { (holds : Holds) → IfOk result (Asks (codes "create") holds
-        (found_of arguments.now)) }
-    ensures bounded { IfOk result IsBounded }
-    ensures refused { (holds : Holds) → IfErr result (Lacks Command.Create holds
-        (found_of arguments.now)) }
-{
-    let creation = Creation::read(arguments)?;
-    Ok(Request::Create(creation))
-}
-
 /// What `layout` is asked for.
 ///
 /// # Errors
 ///
 /// Those of `layout::read`.
 fn read_layout<'p>(arguments: &ArgMatches<'p>) -> Result<Request<'p>, Refusal>
-    ensures asks { (holds : Holds) → IfOk result (Asks (codes "layout") holds
-        (found_of arguments.now)) }
-    ensures bounded { IfOk result IsBounded }
-    ensures refused { (holds : Holds) → IfErr result (Lacks Command.Layout holds
-        (found_of arguments.now)) }
+    ensures { (holds : Holds) → IsRead Command.Layout holds (found_of arguments.now) result }
 {
     let (layout, times) = layout::read(arguments)?;
     Ok(Request::Layout(layout, times))
-}
-
-/// What `type` is asked for.
-///
-/// # Errors
-///
-/// Those of `trailers::read`.
-fn read_type<'p, F: KnownFiles>(
-    files: &F,
-    alloc: Global,
-    arguments: &ArgMatches<'p>,
-) -> Result<Request<'p>, Refusal>
-    ensures asks { IfOk result (Asks (codes "type") (F.holds files.now)
-        (found_of arguments.now)) }
-    ensures bounded { IfOk result IsBounded }
-    ensures refused { IfErr result (Lacks Command.Type (F.holds files.now)
-        (found_of arguments.now)) }
-{
-    let start = trailers::read(files, alloc, arguments)?;
-    Ok(Request::Type(start))
 }
 
 /// What `boot` is asked for.
@@ -291,11 +247,7 @@ fn read_boot<'p, F: KnownFiles>(
     alloc: Global,
     arguments: &ArgMatches<'p>,
 ) -> Result<Request<'p>, Refusal>
-    ensures asks { IfOk result (Asks (codes "boot") (F.holds files.now)
-        (found_of arguments.now)) }
-    ensures bounded { IfOk result IsBounded }
-    ensures refused { IfErr result (Lacks Command.Boot (F.holds files.now)
-        (found_of arguments.now)) }
+    ensures { IsRead Command.Boot (F.holds files.now) (found_of arguments.now) result }
 {
     let (given, outputs) = replay::read_boot(files, alloc, arguments)?;
     Ok(Request::Replay(given, outputs))
@@ -311,11 +263,7 @@ fn read_replay<'p, F: KnownFiles>(
     alloc: Global,
     arguments: &ArgMatches<'p>,
 ) -> Result<Request<'p>, Refusal>
-    ensures asks { IfOk result (Asks (codes "replay") (F.holds files.now)
-        (found_of arguments.now)) }
-    ensures bounded { IfOk result IsBounded }
-    ensures refused { IfErr result (Lacks Command.Replay (F.holds files.now)
-        (found_of arguments.now)) }
+    ensures { IsRead Command.Replay (F.holds files.now) (found_of arguments.now) result }
 {
     if has_two_rounds(arguments)? {
         let given = rounds::read(files, alloc, arguments)?;
@@ -335,11 +283,7 @@ fn read_trace<'p, F: KnownFiles>(
     alloc: Global,
     arguments: &ArgMatches<'p>,
 ) -> Result<Request<'p>, Refusal>
-    ensures asks { IfOk result (Asks (codes "trace") (F.holds files.now)
-        (found_of arguments.now)) }
-    ensures bounded { IfOk result IsBounded }
-    ensures refused { IfErr result (Lacks Command.Trace (F.holds files.now)
-        (found_of arguments.now)) }
+    ensures { IsRead Command.Trace (F.holds files.now) (found_of arguments.now) result }
 {
     if has_two_rounds(arguments)? {
         let text = RoundText::Operations(span_options(arguments)?);
@@ -359,11 +303,7 @@ fn read_sectors<'p, F: KnownFiles>(
     alloc: Global,
     arguments: &ArgMatches<'p>,
 ) -> Result<Request<'p>, Refusal>
-    ensures asks { IfOk result (Asks (codes "sectors") (F.holds files.now)
-        (found_of arguments.now)) }
-    ensures bounded { IfOk result IsBounded }
-    ensures refused { IfErr result (Lacks Command.Sectors (F.holds files.now)
-        (found_of arguments.now)) }
+    ensures { IsRead Command.Sectors (F.holds files.now) (found_of arguments.now) result }
 {
     if has_two_rounds(arguments)? {
         let text = RoundText::Sectors(view_options(arguments)?);
@@ -383,94 +323,10 @@ fn read_picture<'p, F: KnownFiles>(
     alloc: Global,
     arguments: &ArgMatches<'p>,
 ) -> Result<Request<'p>, Refusal>
-    ensures asks { IfOk result (Asks (codes "picture") (F.holds files.now)
-        (found_of arguments.now)) }
-    ensures bounded { IfOk result IsBounded }
-    ensures refused { IfErr result (Lacks Command.Picture (F.holds files.now)
-        (found_of arguments.now)) }
+    ensures { IsRead Command.Picture (F.holds files.now) (found_of arguments.now) result }
 {
     let (given, ends, span) = picture::read(files, alloc, arguments)?;
     Ok(Request::Picture(given, ends, span))
-}
-
-/// What `tears` is asked for.
-///
-/// # Errors
-///
-/// Those of `tears::read`.
-fn read_tears<'p, F: KnownFiles>(
-    files: &F,
-    alloc: Global,
-    arguments: &ArgMatches<'p>,
-) -> Result<Request<'p>, Refusal>
-    ensures asks { IfOk result (Asks (codes "tears") (F.holds files.now)
-        (found_of arguments.now)) }
-    ensures bounded { IfOk result IsBounded }
-    ensures refused { IfErr result (Lacks Command.Tears (F.holds files.now)
-        (found_of arguments.now)) }
-{
-    let asked = tears::read(files, alloc, arguments)?;
-    Ok(Request::Tears(asked))
-}
-
-/// What `vectors` is asked for.
-///
-/// # Errors
-///
-/// Those of `vectors::read`.
-fn read_vectors<'p, F: KnownFiles>(
-    files: &F,
-    alloc: Global,
-    arguments: &ArgMatches<'p>,
-) -> Result<Request<'p>, Refusal>
-    ensures asks { IfOk result (Asks (codes "vectors") (F.holds files.now)
-        (found_of arguments.now)) }
-    ensures bounded { IfOk result IsBounded }
-    ensures refused { IfErr result (Lacks Command.Vectors (F.holds files.now)
-        (found_of arguments.now)) }
-{
-    let asked = vectors::read(files, alloc, arguments)?;
-    Ok(Request::Vectors(asked))
-}
-
-/// What `inspect` is asked for.
-///
-/// # Errors
-///
-/// Those of `inspect::read`.
-fn read_inspect<'p, F: KnownFiles>(
-    files: &F,
-    alloc: Global,
-    arguments: &ArgMatches<'p>,
-) -> Result<Request<'p>, Refusal>
-    ensures asks { IfOk result (Asks (codes "inspect") (F.holds files.now)
-        (found_of arguments.now)) }
-    ensures bounded { IfOk result IsBounded }
-    ensures refused { IfErr result (Lacks Command.Inspect (F.holds files.now)
-        (found_of arguments.now)) }
-{
-    let asked = inspect::read(files, alloc, arguments)?;
-    Ok(Request::Inspect(asked))
-}
-
-/// What `locate` is asked for.
-///
-/// # Errors
-///
-/// Those of `inspect::read_locate`.
-fn read_locate<'p, F: KnownFiles>(
-    files: &F,
-    alloc: Global,
-    arguments: &ArgMatches<'p>,
-) -> Result<Request<'p>, Refusal>
-    ensures asks { IfOk result (Asks (codes "locate") (F.holds files.now)
-        (found_of arguments.now)) }
-    ensures bounded { IfOk result IsBounded }
-    ensures refused { IfErr result (Lacks Command.Locate (F.holds files.now)
-        (found_of arguments.now)) }
-{
-    let asked = inspect::read_locate(files, alloc, arguments)?;
-    Ok(Request::Locate(asked))
 }
 
 /// What `explore` is asked for.
@@ -483,11 +339,7 @@ fn read_explore<'p, F: KnownFiles>(
     alloc: Global,
     arguments: &ArgMatches<'p>,
 ) -> Result<Request<'p>, Refusal>
-    ensures asks { IfOk result (Asks (codes "explore") (F.holds files.now)
-        (found_of arguments.now)) }
-    ensures bounded { IfOk result IsBounded }
-    ensures refused { IfErr result (Lacks Command.Explore (F.holds files.now)
-        (found_of arguments.now)) }
+    ensures { IsRead Command.Explore (F.holds files.now) (found_of arguments.now) result }
 {
     let (asked, page) = explore::ask::<Schedules, F>(files, alloc, arguments)?;
     Ok(Request::Explore(asked, page))
@@ -503,11 +355,7 @@ fn read_campaign<'p, F: KnownFiles>(
     alloc: Global,
     arguments: &ArgMatches<'p>,
 ) -> Result<Request<'p>, Refusal>
-    ensures asks { IfOk result (Asks (codes "campaign") (F.holds files.now)
-        (found_of arguments.now)) }
-    ensures bounded { IfOk result IsBounded }
-    ensures refused { IfErr result (Lacks Command.Campaign (F.holds files.now)
-        (found_of arguments.now)) }
+    ensures { IsRead Command.Campaign (F.holds files.now) (found_of arguments.now) result }
 {
     let (asked, page) = explore::ask::<Campaigns, F>(files, alloc, arguments)?;
     Ok(Request::Campaigns(asked, page))
@@ -523,11 +371,7 @@ fn read_survey<'p, F: KnownFiles>(
     alloc: Global,
     arguments: &ArgMatches<'p>,
 ) -> Result<Request<'p>, Refusal>
-    ensures asks { IfOk result (Asks (codes "survey") (F.holds files.now)
-        (found_of arguments.now)) }
-    ensures bounded { IfOk result IsBounded }
-    ensures refused { IfErr result (Lacks Command.Survey (F.holds files.now)
-        (found_of arguments.now)) }
+    ensures { IsRead Command.Survey (F.holds files.now) (found_of arguments.now) result }
 {
     if has_two_rounds(arguments)? {
         let (asked, page) = explore::ask::<Campaigns, F>(files, alloc, arguments)?;
@@ -547,11 +391,7 @@ fn read_census<'p, F: KnownFiles>(
     alloc: Global,
     arguments: &ArgMatches<'p>,
 ) -> Result<Request<'p>, Refusal>
-    ensures asks { IfOk result (Asks (codes "census") (F.holds files.now)
-        (found_of arguments.now)) }
-    ensures bounded { IfOk result IsBounded }
-    ensures refused { IfErr result (Lacks Command.Census (F.holds files.now)
-        (found_of arguments.now)) }
+    ensures { IsRead Command.Census (F.holds files.now) (found_of arguments.now) result }
 {
     if has_two_rounds(arguments)? {
         let wanted = census::read::<Campaigns, F>(files, alloc, arguments)?;

@@ -1,7 +1,7 @@
 //! `tears`: what power that is lost within an operation of a boot leads to.
-ghost use Rattle.std.specs.Prelude.{◌≡◌, IfErr, IfOk};
+ghost use Rattle.std.specs.Prelude.{◌≡◌, IfErr, IfOk, OnOk};
 ghost use Rattle.clap.specs.Matches.{found_of};
-ghost use Rattle.mc_command.specs.Tears.{AnswersTears, GivesCase, GivesErasing, GivesTears, LacksCase, LacksErasing, LacksStartAfter, LacksTears, RefusesCase, StartsAfter, refused_as};
+ghost use Rattle.mc_command.specs.Tears.{AnswersTears, GivesCase, GivesErasing, GivesTears, HasEachCase, LacksCase, LacksErasing, LacksStartAfter, LacksTears, RefusesCase, StartsAfter, refused_as};
 
 use clap::ArgMatches;
 use mc_actions::replay::write_file;
@@ -155,7 +155,8 @@ impl TearsAsked<'_> {
         files: &WatchedFiles<'_, F>,
         alloc: Global,
     ) -> Result<(), Refusal>
-        ensures { IfErr result (RefusesCase self.now) }
+        ensures there { OnOk result (HasEachCase self.now) }
+        ensures refused { IfErr result (RefusesCase self.now) }
     {
         let Some(case) = &self.file else {
             return Ok(());

@@ -5,3 +5,4 @@ pub mod Sources
 pub mod Refusals
 pub mod Requests
 pub mod Outfiles
+pub mod LayoutFiles

@@ -16,6 +16,10 @@ use Rattle.mc_campaign.specs.declared.campaign.CampaignError.{CampaignError}
 use Rattle.mc_trace.specs.declared.cells.Words.{Words}
 use Rattle.mc_trailer.specs.{Tables.{profile_text}, declared.tables.Profile.{Profile}}
 
+-- Words are read one after another: what is read first is refused; or it is given, and what is read after it is refused.
+abbrev pub InTurn : {A : Type 0} → (A → Type 0) → (Refusal → Type 0) → (A → Refusal → Type 0) → Refusal → Type 0
+InTurn {A} Gives Lacks Then e = Lacks e ⊎ ((a : A) × Gives a × Then a e)
+
 -- An option is left out that a command cannot do without.
 abbrev pub LacksOption : Found → List ℕ → Refusal → Type 0
 LacksOption found name e = (e ≡ refusals.Argument) × (first_value found name ≡ None)

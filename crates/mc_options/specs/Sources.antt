@@ -1,5 +1,5 @@
 -- What files give, and the start that the bytes of a source's files make.
-use Rattle.std.specs.Prelude.{Bool, Err, IfSome, List, None, Ok, Option, bytes_eq, codes, length, take, ◌||◌, ◌^◌, ◌≡◌, ◌≤◌, ◌⊎◌, ℕ}
+use Rattle.std.specs.Prelude.{Err, IfSome, List, None, Ok, Option, length, ◌^◌, ◌≡◌, ◌≤◌, ◌⊎◌, ℕ}
 use Rattle.clap.specs.declared.parser.matches.Found.{Found}
 use Rattle.mc_cli.specs.Files.{Holds}
 use Rattle.mc_flash.specs.{Flash.{Content}, Geometry.{Geometry}}
@@ -66,14 +66,3 @@ pub record FailsStart (holds : Holds) (found : Found) (e : Refusal) : Type 0 whe
 -- The arguments give no source, or it has no start.
 abbrev pub LacksStart : Holds → Found → Refusal → Type 0
 LacksStart holds found e = LacksFlash found e ⊎ FailsStart holds found e
-
--- A word names a file of a layout, or says that the next one does.
-abbrev pub is_file_word : List ℕ → Bool
-is_file_word word = bytes_eq word (codes "--layout") || bytes_eq (take 9 word) (codes "--layout=")
-
--- A line of a layout's file is none of its options, or an allocation failed; or such a file is not read.
-abbrev pub IsNoSetting : Refusal → Type 0
-IsNoSetting e = (e ≡ refusals.LayoutFile) ⊎ (e ≡ refusals.Memory)
-
-abbrev pub RefusesSettings : Holds → Refusal → Type 0
-RefusesSettings holds e = IsNoSetting e ⊎ ((path : List ℕ) × RefusesFile (holds path) 65536 e)

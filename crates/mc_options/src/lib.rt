@@ -16,7 +16,7 @@ mod source;
 mod usual;
 
 pub use blocks::{finish, flush, in_blocks};
-pub use layout_file::{asks_file, with_files};
+pub use layout_file::with_files;
 pub use notes::{print_cost, print_note};
 pub use numbers::NumberOption;
 pub use options::{

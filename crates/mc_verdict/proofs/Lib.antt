@@ -1,5 +1,4 @@
 mod Judging
-pub mod Asking
 mod Answering
 mod Paging
 mod Shortening

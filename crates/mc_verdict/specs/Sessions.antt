@@ -13,7 +13,7 @@ use Rattle.mc_image.specs.Valid.{Identity}
 use Rattle.mc_start.specs.{Cursor.{IsCursor, cursor_text}, Start.{begun}, declared.cursor.Cursor.{Cursor}}
 use Rattle.mc_campaign.specs.declared.cursor.CampaignCursor.{CampaignCursor}
 use Rattle.mc_campaign.specs.Texts as campaigns
-use Rattle.mc_options.specs.{Arguments.{GivesExtent, GivesFlash, GivesRange}, Numbers.{GivesNumber}, Refusals.{LacksExtent, LacksFlash, LacksRange, LacksRequired}, Sources.{FailsStart, IsStartOf}}
+use Rattle.mc_options.specs.{Arguments.{GivesExtent, GivesFlash, GivesRange}, Numbers.{GivesNumber}, Refusals.{InTurn, LacksExtent, LacksFlash, LacksRange, LacksRequired}, Sources.{FailsSource, IsStartOf}}
 use Rattle.mc_verdict.specs.{Shortest.{IsShortest, anything}, Verdicts.{IsExpectation, GivesAsked, IsJudged, LacksEnds, NeverJudged}, declared.verdict.Asked.{Asked}, declared.census.Counts.{Counts}, declared.census.Wanted.{Wanted}}
 use Rattle.mc_verdict.specs.declared.explore.Exploration.{Exploration}
 use Rattle.mc_options.specs.declared.numbers.NumberOption.TheVariants as numbers
@@ -65,16 +65,24 @@ IsNoCursor text = (c : Cursor) → IsCursor c → text ≡ cursor_text c → ⊥
 abbrev pub IsNoCampaignCursor : List ℕ → Type 0
 IsNoCampaignCursor text = (c : CampaignCursor) → campaigns.IsCursor c → text ≡ campaigns.cursor_text c → ⊥
 
+-- What is asked is asked of a layout that never swaps; or a file of the source is refused.
+abbrev pub FailsAsked : Holds → Asked → FlashOptions → Refusal → Type 0
+FailsAsked holds a o e = NeverJudged a o.layout e ⊎ (IsJudged a o.layout × FailsSource holds o.layout o.source e)
+
 -- They give no exploration, whose cursors and keys have such texts.
-abbrev pub LacksExploration : (List ℕ → Type 0) → (List ℕ → Type 0) → Holds → Found → Refusal → Type 0
-LacksExploration IsNoCursor IsNoKey holds found e =
-    ((LacksEnds found e ⊎ LacksFlash found e) ⊎ (LacksExtent found e ⊎ LacksRange IsNoCursor IsNoKey found e))
-    ⊎ (NeverJudged found e ⊎ FailsStart holds found e)
+abbrev pub LacksExploration : {C K R U : Type 0} → Subject C K R U → (List ℕ → Type 0) → (List ℕ → Type 0) → Holds → Found → Refusal → Type 0
+LacksExploration x IsNoCursor IsNoKey holds found =
+    InTurn (GivesAsked found) (LacksEnds found) (λ asked.
+    InTurn (GivesFlash found) (LacksFlash found) (λ options.
+    InTurn (GivesExtent found) (LacksExtent found) (λ extent.
+    InTurn (GivesRange x.cursor_text x.key_text found) (LacksRange IsNoCursor IsNoKey found) (λ range. FailsAsked holds asked options))))
 
 -- They give no census.
 abbrev pub LacksCensus : Holds → Found → Refusal → Type 0
-LacksCensus holds found e =
-    ((LacksEnds found e ⊎ LacksFlash found e) ⊎ LacksRequired found numbers.Cuts e) ⊎ (NeverJudged found e ⊎ FailsStart holds found e)
+LacksCensus holds found =
+    InTurn (GivesFlash found) (LacksFlash found) (λ options.
+    InTurn (GivesNumber found numbers.Cuts) (LacksRequired found numbers.Cuts) (λ cuts.
+    InTurn (GivesAsked found) (LacksEnds found) (λ asked. FailsAsked holds asked options)))
 
 module _ {C K R U : Type 0} (x : Subject C K R U) (fields : U → Fields C K) where
   -- An explorer after a key, with a key next, after that of the cursor, or at the start; or why there is none.

@@ -6,7 +6,7 @@ use Rattle.mc_explore.specs.{Pages.{Page}, Right.{AllEndRight, IsBytesOf, Wants,
 use Rattle.mc_explore.specs.{declared.expectation.Expectation.{Expectation}, declared.expectation.Wanted.{Wanted}, declared.rights.RightsOf.{RightsOf}}
 use Rattle.mc_flash.specs.Geometry.{Geometry}
 use Rattle.mc_image.specs.{Valid.{Identity}, declared.error.VersionError.{VersionError}}
-use Rattle.mc_options.specs.{Arguments.{GivesLayout, IsFlag}, Refusals.{HasText}, declared.refusal.Refusal.{Refusal}}
+use Rattle.mc_options.specs.{Arguments.{IsFlag}, Refusals.{HasText}, declared.refusal.Refusal.{Refusal}}
 use Rattle.mc_verdict.specs.{declared.verdict.Asked.{Asked}, declared.verdict.Ends.{Ends}}
 use Rattle.mc_explore.specs.declared.expectation.Wanted.TheVariants as wanted
 use Rattle.mc_options.specs.declared.refusal.Refusal.TheVariants as refusals
@@ -53,14 +53,8 @@ NeverSwaps g = g.max_sectors < g.primary
 abbrev pub IsJudged : Asked → Geometry → Type 0
 IsJudged a g = is_any a ≡ true → NeverSwaps g → ⊥
 
-pub record NeverJudged (found : Found) (e : Refusal) : Type 0 where
-  pub asked : Asked
-  pub asked_given : GivesAsked found asked
-  pub any : is_any asked ≡ true
-  pub layout : Geometry
-  pub layout_given : GivesLayout found layout
-  pub never : NeverSwaps layout
-  pub refusal_is : e ≡ refusals.NeverSwaps
+abbrev pub NeverJudged : Asked → Geometry → Refusal → Type 0
+NeverJudged a g e = (e ≡ refusals.NeverSwaps) × (is_any a ≡ true) × NeverSwaps g
 
 -- What is wanted of a slot: what is known of it; else, where each row is to be right, the image that is to lie there at the end.
 abbrev pub wanted_of : Option Wanted → Bool → Option Identity → Option Wanted

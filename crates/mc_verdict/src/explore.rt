@@ -196,8 +196,8 @@ pub fn ask<X: Explorable, F: KnownFiles>(
         (F.holds files.now) (found_of arguments.now) given.0 given.1) }
     ensures range { IfOk result (λ given. (given.1.extent.cuts ≤ 16)
         × (1 ≤ given.1.extent.limit)) }
-    ensures refused { IfErr result (LacksExploration X.IsNoCursor X.IsNoKey (F.holds files.now)
-        (found_of arguments.now)) }
+    ensures refused { IfErr result (LacksExploration X.subject X.IsNoCursor X.IsNoKey
+        (F.holds files.now) (found_of arguments.now)) }
 {
     let asked = Asked::read(arguments)?;
     let options = match flash_options(arguments) {

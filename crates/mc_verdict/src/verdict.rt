@@ -6,7 +6,7 @@ ghost use Rattle.mc_boot.specs.Plan.{identity_of};
 ghost use Rattle.mc_explore.specs.declared.expectation.Expectation.{Expectation as Expected};
 ghost use Rattle.mc_explore.specs.Right.{AllEndRight};
 ghost use Rattle.mc_output.specs.Text.{AppendsPrefix};
-ghost use Rattle.mc_verdict.specs.Verdicts.{AreCounted, IsExpectation, MayGiveWanted, GivesAsked, GivesEnds, LacksEnds, LacksWanted, expected_ends, is_any, is_of_slots, lines_of, NeverSwaps, verdict_of, wanted_of, wanted_or_any};
+ghost use Rattle.mc_verdict.specs.Verdicts.{AreCounted, IsExpectation, MayGiveWanted, GivesAsked, GivesEnds, IsJudged, LacksEnds, LacksWanted, expected_ends, is_any, is_of_slots, lines_of, NeverJudged, verdict_of, wanted_of, wanted_or_any};
 
 use clap::ArgMatches;
 use mc_boot::ImageId;
@@ -170,9 +170,8 @@ impl Asked {
     ///
     /// `NeverSwaps`.
     pub fn check(&self, layout: &Layout) -> Result<(), Refusal>
-        ensures refused { IsErrOf result Refusal.NeverSwaps
-            ↔ ((is_any self.now ≡ true) × NeverSwaps layout.now) }
-        ensures err { IfErr result (λ e. e ≡ Refusal.NeverSwaps) }
+        ensures judged { OnOk result (IsJudged self.now layout.now) }
+        ensures refused { IfErr result (NeverJudged self.now layout.now) }
     {
         if self.is_any() && layout.max_sectors() < layout.primary() {
             return Err(Refusal::NeverSwaps);

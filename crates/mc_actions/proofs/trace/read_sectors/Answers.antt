@@ -4,4 +4,4 @@ use Rattle.mc_actions.proofs.trace.read_sectors.Goals as goal
 pub returns-in_err-given-clause-refused : goal.returns-in_err-given-clause-refused
 returns-in_err-given-clause-refused g c =
     let p = err_from_is_err_and c.from_residual-in_err-given.result c.from_residual-in_err-given.ensures.1 in
-    rw (p.1, p.2) (inr c.in_err-given.ensures.refused)
+    rw (p.1, p.2) (inr (_, c.in_ok-view.ensures.given, c.in_err-given.ensures.refused))

@@ -1,7 +1,7 @@
 use Rattle.std.proofs.Common.{◌≡◌, ◌∙◌, ap, arith, map, take}
 use Rattle.std.proofs.lemmas.List.{take_all}
 use Rattle.mc_cli.specs.Program.{words_of}
-use Rattle.mc_cli.specs.inner.Tables.{IsCommand, entry_of_word, with_entries}
+use Rattle.mc_cli.specs.inner.Tables.{entry_of_word}
 use Rattle.mc_cli.proofs.Programs.{added_word, further}
 use Rattle.mc_cli.proofs.command.with_group.Goals as goal
 

@@ -1,4 +1,4 @@
-use Rattle.std.specs.Prelude.{Bool, false}
+use Rattle.std.specs.Prelude.{false}
 use Rattle.std.proofs.Common.{inl, refl, subst, ◌≡◌}
 use Rattle.mc_actions.specs.{Vectors.{AreFound, RefusesSearch, bound_of, is_whole}, declared.vectors.Cuts.{Cuts}, declared.vectors.Table.{Table}, declared.vectors.VectorsAsked.{VectorsAsked}}
 use Rattle.mc_actions.specs.declared.vectors.Cuts.TheVariants as cuts
