@@ -1,7 +1,7 @@
 -- The words of a line with what its files give.
-use Rattle.std.proofs.Common.{List, [], ap, arith, codes, inl, inr, length, map, refl, subst, sym, ℕ, ◌++◌, ◌∙◌, ◌∷◌, ◌≡◌, ◌≢◌}
+use Rattle.std.proofs.Common.{List, [], ap, arith, codes, length, map, refl, subst, sym, ℕ, ◌++◌, ◌∙◌, ◌∷◌, ◌≡◌, ◌≢◌}
 use Rattle.std.proofs.lemmas.List.{append_assoc}
-use Rattle.mc_options.specs.LayoutFiles.{FileGives, NamesFile, StandsFor}
+use Rattle.mc_options.specs.LayoutFiles.{FileGives, Follow, NamesFile, StandsFor}
 use Rattle.mc_cli.specs.Files.{Holds}
 
 module _ (holds : Holds) (words rest after : List (List ℕ)) where
@@ -22,15 +22,8 @@ module _ (holds : Holds) (words rest after : List (List ℕ)) where
       let here = subst (λ z. StandsFor holds z (word ∷ later)) (sym begins) (StandsFor.word word after later plain differs stands) in
       subst (StandsFor holds words) (sym (ap (λ z. z ++ later) is ∙ append_assoc old (word ∷ []) later)) (so (word ∷ later) here)
 
-  -- The words before the rest, and those before what follows.
-  pub parted_more : (before : List (List ℕ)) (path : List ℕ) → words ≡ before ++ rest → NamesFile rest path after → (b : List (List ℕ)) × (words ≡ b ++ after)
-  parted_more before path is (inl named) =
-      (before ++ (codes "--layout=" ++ path) ∷ [], is ∙ ap (λ z. before ++ z) named ∙ sym (append_assoc before ((codes "--layout=" ++ path) ∷ []) after))
-  parted_more before path is (inr named) =
-      (before ++ codes "--layout" ∷ (path ∷ []), is ∙ ap (λ z. before ++ z) named ∙ sym (append_assoc before (codes "--layout" ∷ (path ∷ [])) after))
-
-  pub parted_word : (before : List (List ℕ)) (word : List ℕ) → words ≡ before ++ rest → rest ≡ word ∷ after → (b : List (List ℕ)) × (words ≡ b ++ after)
-  parted_word before word is begins = (before ++ word ∷ [], is ∙ ap (λ z. before ++ z) begins ∙ sym (append_assoc before (word ∷ []) after))
+  pub follow_word : (word : List ℕ) → Follow words rest → rest ≡ word ∷ after → word ≢ codes "--" → Follow words after
+  follow_word word before begins differs = Follow.word word after differs (subst (Follow words) begins before)
 
   pub stand_over : (old new : List (List ℕ)) (word : List ℕ) → Becomes old → rest ≡ word ∷ after → word ≡ codes "--" → new ≡ old ++ rest → StandsFor holds words new
   stand_over old new word so begins end is =

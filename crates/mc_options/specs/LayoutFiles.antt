@@ -91,11 +91,16 @@ pub data StandsFor (holds : Holds) : List (List ℕ) → List (List ℕ) → Typ
   file : (words : List (List ℕ)) (path : List ℕ) (after given whole : List (List ℕ)) → NamesFile words path after → FileGives holds path given
       → StandsFor holds after whole → StandsFor holds words (given ++ whole)
 
+-- The words that follow some of the first ones, none of which is `--`.
+pub data Follow (words : List (List ℕ)) : List (List ℕ) → Type 0 where
+  all : Follow words words
+  word : (word : List ℕ) (rest : List (List ℕ)) → word ≢ codes "--" → Follow words (word ∷ rest) → Follow words rest
+  file : (rest : List (List ℕ)) (path : List ℕ) (after : List (List ℕ)) → NamesFile rest path after → Follow words rest → Follow words after
+
 -- Some of the words name a file that is refused so; or an allocation failed.
 pub record NamesRefused (holds : Holds) (words : List (List ℕ)) (e : Refusal) : Type 0 where
-  pub before : List (List ℕ)
   pub rest : List (List ℕ)
-  pub parted : words ≡ before ++ rest
+  pub follow : Follow words rest
   pub path : List ℕ
   pub after : List (List ℕ)
   pub names : NamesFile rest path after

@@ -1,10 +1,10 @@
-use Rattle.std.proofs.Common.{List, length, map, string_bytes, ℕ, ◌++◌, ◌≡◌}
-use Rattle.mc_options.specs.LayoutFiles.{StandsFor}
+use Rattle.std.proofs.Common.{List, length, map, string_bytes, ℕ, ◌++◌}
+use Rattle.mc_options.specs.LayoutFiles.{Follow, StandsFor}
 use Rattle.mc_options.proofs.layout_file.with_files.Given as goal
 
 abbrev pub invariant-words : goal.invariant-words
 invariant-words g l = record {
-  parted : (before : List (List ℕ)) × (map string_bytes l.words ≡ before ++ map string_bytes l.rest);
+  follow : Follow (map string_bytes l.words) (map string_bytes l.rest);
   stands : (later : List (List ℕ)) → StandsFor (g.F.KnownFiles.holds l.files) (map string_bytes l.rest) later
       → StandsFor (g.F.KnownFiles.holds l.files) (map string_bytes l.words) (map string_bytes l.whole.items ++ later);
 }
