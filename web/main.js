@@ -75,11 +75,14 @@ function leave_old(facts) {
   if (is_old) by_id("torn").hidden = true;
 }
 
-// Says of what is shown whether it is of the last question, and takes nothing from there if so.
+// Says of what is shown whether it is of the last question, and takes nothing from there if so. Beside what is of this one stands no verdict
+// of the last.
 function mark_old(is_old) {
   by_id("shown").classList.toggle("old", is_old);
   by_id("shown").inert = is_old;
-  if (!is_old) by_id("old-note").hidden = true;
+  if (is_old) return;
+  by_id("old-note").hidden = true;
+  if (by_id("verdict").classList.contains("old")) by_id("verdict").hidden = true;
 }
 
 // What the power-on after `before` shows, cut at a number or left alone.
