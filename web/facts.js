@@ -1,7 +1,5 @@
 "use strict";
 // What the program says of one start: each question is asked once, and its answer kept.
-import { KINDS } from "./kinds.js";
-import { named_slots } from "./places.js";
 import { Lost, Refused, bytes_of, flash, run, run_judged } from "./program.js";
 import { torn_of } from "./tears.js";
 import { cuts_of, fields_of, kind_of, last_operations, rows_of, schedule_text, slots_of } from "./texts.js";
@@ -73,16 +71,10 @@ export class Facts {
     return this.of_start("replay", [["--schedule", schedule_text(cuts)]]);
   }
 
-  // The words of the sectors as the program prints them.
-  async printed_sectors(cuts, end, signal) {
+  // The words of the sectors.
+  async sectors(cuts, end, signal) {
     const more = [["--schedule", schedule_text(cuts)], ["--words", "all"], ...(end ? [["--end"]] : [])];
     return slots_of(await this.of_start("sectors", more, signal));
-  }
-
-  // The words of the sectors, by their own places where these hold the same.
-  async sectors(cuts, end, signal) {
-    const [printed, start] = await Promise.all([this.printed_sectors(cuts, end, signal), this.printed_sectors([], false)]);
-    return named_slots(printed, start, KINDS[this.setup.kind]?.named);
   }
 
   // The versions of two images that fit, by a boot that leaves them where they are.

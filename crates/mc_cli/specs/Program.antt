@@ -117,6 +117,7 @@ boot_commands =
 unfoldable pub flash_commands : List Line
 flash_commands =
     (codes "sectors", [], groups.Layout ∷ groups.Source ∷ groups.Rules ∷ groups.Sectors ∷ groups.Rounds ∷ []) ∷
+    (codes "frames", [], groups.Layout ∷ groups.Source ∷ groups.Rules ∷ groups.Picture ∷ []) ∷
     (codes "picture", [], groups.Layout ∷ groups.Source ∷ groups.Rules ∷ groups.Picture ∷ []) ∷
     (codes "tears", [], groups.Layout ∷ groups.Source ∷ groups.Rules ∷ groups.Tears ∷ []) ∷
     (codes "vectors", [], groups.Layout ∷ groups.Source ∷ groups.Rules ∷ groups.Vectors ∷ []) ∷

@@ -12,7 +12,7 @@ use std::alloc::{AllocError, Global};
 use table::{Group, Subcommand, Takes, Word};
 
 /// The program's version. Of proofs it says nothing: a build without them has it too.
-static VERSION: &str = "0.1.0";
+pub const VERSION: &str = "0.1.0";
 
 static ABOUT: &str =
     "Checks MCUboot upgrades against power loss, and makes and inspects hash-only MCUboot images";
@@ -21,7 +21,7 @@ static AFTER_HELP: &str = "\
 Which question is answered by which command:
   is every sequence of power cuts safe?     census --cuts 16 --all-right
   which sequences are there, ending how?    explore; survey counts a part of them
-  what happens in one of them?              trace, sectors, picture, replay
+  what happens in one of them?              trace, sectors, frames, picture, replay
   what is this dump of a device?            inspect; locate finds it in a swap
   what becomes of a device, step by step?   life
   does my own boot loader do the same?      vectors (and scripts/conform)

@@ -8,7 +8,7 @@ mod imgtool;
 mod known;
 mod watched;
 
-pub use command::parse;
+pub use command::{VERSION, parse};
 pub use explanations::{Explanation, all_explanations};
 pub use imgtool::left_out;
 pub use known::{KnownFiles, have_one_number};

@@ -1,15 +1,15 @@
--- How many operations a picture shows, and how it is answered.
+-- How the frames of a schedule are answered, as text and as a picture, and how many operations that shows.
 use Rattle.std.specs.Prelude.{List, Option, [], min, ℕ, ◌+◌, ◌-◌, ◌<◌, ◌∷◌, ◌≡◌, ◌≤◌, ◌⊎◌}
 use Rattle.clap.specs.declared.parser.matches.Found.{Found}
-use Rattle.mc_actions.specs.{Schedules.{LacksTraced}, declared.schedule.Scheduled.{Scheduled}}
+use Rattle.mc_actions.specs.{Schedules.{IsShownUnwritten, LacksTraced, RefusesShown}, declared.schedule.Scheduled.{Scheduled}}
 use Rattle.mc_boot.specs.Outcome.{Report}
-use Rattle.mc_cli.specs.Files.{Holds}
+use Rattle.mc_cli.specs.{Files.{Holds}, declared.command.TheConstants.{VERSION}}
 use Rattle.mc_explore.specs.{Schedules.{IsReplayed, RefusesReplay}, declared.replays.ReplayError.{ReplayError}}
 use Rattle.mc_flash.specs.Flash.{Content}
 use Rattle.mc_options.specs.{Refusals.{InTurn}, Requests.{End, IsAnswered, IsDone}, declared.refusal.Refusal.{Refusal}}
 use Rattle.mc_options.specs.declared.refusal.Refusal.TheVariants as refusals
 use Rattle.mc_start.specs.Start.{begun}
-use Rattle.mc_trace.specs.{Picture.{IsPicture}, declared.error.TraceError.{TraceError}, declared.trace.Span.{Span}}
+use Rattle.mc_trace.specs.{Frames.{frames_text}, Picture.{IsPicture}, declared.error.TraceError.{TraceError}, declared.trace.Span.{Span}}
 use Rattle.mc_verdict.specs.{Verdicts.{GivesEnds, LacksEnds, expected_ends}, declared.verdict.Ends.{Ends}}
 
 -- So many of the first n numbers lie in a span.
@@ -35,7 +35,7 @@ pub record HasRows (s : Scheduled) (span : Span) (Many : ℕ → Type 0) : Type 
 -- The picture of a schedule, for what is expected of its slots, of no more operations than a browser can show.
 pub record Drawn (s : Scheduled) (ends : Ends) (span : Span) : Type 0 where
   pub text : List ℕ
-  pub is : IsPicture (expected_ends ends s.start.named) span (begun s.start) s.schedule text
+  pub is : IsPicture VERSION.now (expected_ends ends s.start.named) span s.start s.schedule text
   pub few : HasRows s span (λ n. n ≤ 20000)
 
 -- There would be more.
@@ -54,3 +54,9 @@ RefusesPicture s span e =
 
 abbrev pub AnswersPicture : Scheduled → Ends → Span → Option (List ℕ) → Option (List ℕ) → End → Type 0
 AnswersPicture s ends span = IsAnswered (λ (d : Drawn s ends span). d.text) IsDone (RefusesPicture s span) IsUndrawn
+
+-- The frames of a schedule, for what is expected of its slots. They are refused, with nothing out, where a cut can't occur or an allocation
+-- fails; or an allocation or a write fails in them.
+abbrev pub AnswersFrames : Scheduled → Ends → Span → Option (List ℕ) → Option (List ℕ) → End → Type 0
+AnswersFrames s ends span =
+    IsAnswered (λ (_ : Unit {0}). frames_text VERSION.now (expected_ends ends s.start.named) span s.start s.schedule) IsDone (RefusesShown s) IsShownUnwritten

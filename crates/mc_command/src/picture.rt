@@ -1,18 +1,18 @@
-//! `picture`: a page that shows the boots of a schedule.
+//! `frames` and `picture`: the boots of a schedule, operation by operation, as text and as a page.
 ghost use Rattle.std.specs.Prelude.{◌≡◌, ◌<◌, ◌≤◌, ◌+◌, ◌*◌, ◌^◌, IfErr, IfOk, MatchResult, length};
 ghost use Rattle.clap.specs.Matches.{found_of};
 ghost use Rattle.mc_actions.specs.Schedules.{GivesScheduled};
-ghost use Rattle.mc_command.specs.Pictures.{AnswersPicture, LacksPicture, rows_in, within};
+ghost use Rattle.mc_command.specs.Pictures.{AnswersFrames, AnswersPicture, LacksPicture, rows_in, within};
 ghost use Rattle.mc_options.specs.Arguments.{GivesSpan};
 ghost use Rattle.mc_verdict.specs.Verdicts.{GivesEnds};
 
 use clap::ArgMatches;
 use mc_actions::schedule::{Scheduled, read_schedule};
-use mc_cli::KnownFiles;
+use mc_cli::{KnownFiles, VERSION};
 use mc_explore::replay;
 use mc_flash::JournalFlash;
 use mc_options::{Refusal, span_options};
-use mc_trace::{Span, write_picture};
+use mc_trace::{Span, write_frames, write_picture};
 use mc_verdict::Ends;
 use std::alloc::Global;
 use std::io::Write;
@@ -57,7 +57,7 @@ fn check_rows(span: Span, cuts: &[u32], last: u32) -> Result<(), Refusal>
     Ok(())
 }
 
-/// What `picture` is asked for: a schedule, what the slots are to hold at the end, and from which of each boot's operations to which.
+/// What `frames` or `picture` is asked for: a schedule, what the slots are to hold at the end, and from which of each boot's operations to which.
 ///
 /// # Errors
 ///
@@ -77,6 +77,34 @@ pub fn read<F: KnownFiles>(
     let span = span_options(arguments)?;
     let given = read_schedule(files, alloc, arguments)?;
     Ok((given, ends, span))
+}
+
+/// Prints the frames of the boots which a schedule cuts and of the last boot, those of each boot in a span.
+///
+/// # Errors
+///
+/// `Trace` where a cut can't occur, for want of memory, or where the output fails.
+pub fn answer_frames<O: Write>(
+    alloc: Global,
+    given: &Scheduled,
+    ends: &Ends,
+    span: Span,
+    out: &mut O,
+) -> Result<(), Refusal>
+    ensures { AnswersFrames given.now ends.now span (O.contents out.old) (O.contents out.new)
+        result }
+{
+    let (start, schedule) = (&given.start, &given.schedule);
+    let expectation = ends.expectation(start.named());
+    write_frames::<JournalFlash, O>(
+        alloc,
+        VERSION,
+        start,
+        schedule,
+        &expectation,
+        span,
+        out,
+    ).map_err(Refusal::Trace)
 }
 
 /// Prints a page that shows the boots which a schedule cuts and the last boot, operation by operation, those in a span, and what all schedules
@@ -103,7 +131,13 @@ pub fn answer<O: Write>(
     };
     check_rows(span, schedule.cuts(), outcome.ops)?;
     let expectation = ends.expectation(start.named());
-    write_picture::<JournalFlash, O>(alloc, start, schedule, &expectation, span, out).map_err(
-        Refusal::Trace,
-    )
+    write_picture::<JournalFlash, O>(
+        alloc,
+        VERSION,
+        start,
+        schedule,
+        &expectation,
+        span,
+        out,
+    ).map_err(Refusal::Trace)
 }

@@ -39,6 +39,7 @@ pub enum Command {
     Replay,
     Trace,
     Sectors,
+    Frames,
     Picture,
     Tears,
     Vectors,
@@ -67,6 +68,7 @@ impl Command {
             "replay" => Some(Command::Replay),
             "trace" => Some(Command::Trace),
             "sectors" => Some(Command::Sectors),
+            "frames" => Some(Command::Frames),
             "picture" => Some(Command::Picture),
             "tears" => Some(Command::Tears),
             "vectors" => Some(Command::Vectors),
@@ -105,6 +107,8 @@ pub enum Request<'p> {
     Sectors(Scheduled, View),
     /// The operations, or the sectors, of both rounds of a campaign.
     CampaignShown(Campaigned, RoundText),
+    /// The frames of a schedule's boots.
+    Frames(Scheduled, Ends, Span),
     /// The page that shows a schedule's boots.
     Picture(Scheduled, Ends, Span),
     /// What torn operations of a boot lead to.
@@ -155,6 +159,7 @@ impl<'p> Request<'p> {
             Command::Replay => read_replay(files, alloc, arguments),
             Command::Trace => read_trace(files, alloc, arguments),
             Command::Sectors => read_sectors(files, alloc, arguments),
+            Command::Frames => read_frames(files, alloc, arguments),
             Command::Picture => read_picture(files, alloc, arguments),
             Command::Tears => Ok(Request::Tears(tears::read(files, alloc, arguments)?)),
             Command::Vectors => Ok(Request::Vectors(vectors::read(files, alloc, arguments)?)),
@@ -203,6 +208,9 @@ impl<'p> Request<'p> {
             Request::Trace(given, span) => trace::answer(alloc, given, *span, out),
             Request::Sectors(given, view) => trace::answer_sectors(alloc, given, *view, out),
             Request::CampaignShown(given, text) => rounds::show(alloc, given, *text, out),
+            Request::Frames(given, ends, span) => {
+                picture::answer_frames(alloc, given, ends, *span, out)
+            }
             Request::Picture(given, ends, span) => picture::answer(alloc, given, ends, *span, out),
             Request::Tears(asked) => tears::answer(files, alloc, asked, out),
             Request::Vectors(asked) => vectors::answer(files, alloc, asked, out),
@@ -311,6 +319,22 @@ fn read_sectors<'p, F: KnownFiles>(
     }
     let (given, view) = trace::read_sectors(files, alloc, arguments)?;
     Ok(Request::Sectors(given, view))
+}
+
+/// What `frames` is asked for.
+///
+/// # Errors
+///
+/// Those of `picture::read`.
+fn read_frames<'p, F: KnownFiles>(
+    files: &F,
+    alloc: Global,
+    arguments: &ArgMatches<'p>,
+) -> Result<Request<'p>, Refusal>
+    ensures { IsRead Command.Frames (F.holds files.now) (found_of arguments.now) result }
+{
+    let (given, ends, span) = picture::read(files, alloc, arguments)?;
+    Ok(Request::Frames(given, ends, span))
 }
 
 /// What `picture` is asked for.

@@ -1,25 +1,24 @@
 -- The sections of the boots of a schedule.
-use Rattle.std.specs.Prelude.{List, None, Option, Some, [], codes, length, ℕ, ◌+◌, ◌++◌, ◌<◌, ◌∷◌, ◌≡◌}
+use Rattle.std.specs.Prelude.{List, None, Option, Some, [], length, ℕ, ◌+◌, ◌++◌, ◌<◌, ◌∷◌, ◌≡◌}
 use Rattle.std.proofs.Common.{ap, subst, ◌∙◌}
 use Rattle.mc_boot.specs.{Outcome.{Report, ops_of, outcome_of, shown}, Plan.{PowerOn, again}}
 use Rattle.mc_explore.specs.{Schedules.{CanOccur}, declared.one_round.OneRound.{OneRound}, facts.Children.{IsAtChild}}
 use Rattle.mc_explore.specs.{declared.one_round.Summary.{Summary}, facts.Occurring.{allowed_occurs, occurs_allowed}, inner.LastCuts.{boot_at}, inner.OneRound.{begun_of}}
 use Rattle.mc_explore.specs.Boots.{at_cut, boots}
 use Rattle.mc_flash.specs.Flash.{Content}
-use Rattle.mc_trace.specs.{Picture.{boot_rows, boot_section, end_of, end_text, heading_of, heading_text, sections_text}, declared.picture_rows.Look.{Look}}
-use Rattle.mc_trace.specs.inner.Rows.{model_of}
+use Rattle.mc_trace.specs.{Frames.{boot_frames, boot_section, end_of, end_text, heading, heading_of, sections_text}, declared.frame.Look.{Look}, inner.Walking.{model_of}}
 use Rattle.mc_tree.specs.facts.Order.{landed-push}
 use Rattle.mc_walk.specs.Walks.{IsThere, Walked}
 
 module _ (look : Look) (start : Content) (boot : ℕ) (x : PowerOn) where
   module _ (o : Report) (is : outcome_of x ≡ Some o) where
     -- The section of a boot with that outcome.
-    pub section_is : (cut : Option ℕ) → boot_section look start boot x cut ≡ heading_text boot o ++ (boot_rows look start x cut ++ codes "</section>\n")
-    section_is cut = ap (λ r. heading_of boot r ++ (boot_rows look start x cut ++ codes "</section>\n")) is
+    pub section_is : (cut : Option ℕ) → boot_section look start boot x cut ≡ heading look.form x.geometry boot o ++ boot_frames look start boot x cut
+    section_is cut = ap (λ r. heading_of look.form x.geometry boot r ++ boot_frames look start boot x cut) is
 
     -- The last one, where there is no cut.
-    pub last_is : (cuts : List ℕ) → cuts ≡ [] → sections_text look start boot x cuts ≡ boot_section look start boot x None ++ end_text look.expectation o
-    last_is cuts none = ap (sections_text look start boot x) none ∙ ap (λ r. boot_section look start boot x None ++ end_of look.expectation r) is
+    pub last_is : (cuts : List ℕ) → cuts ≡ [] → sections_text look start boot x cuts ≡ boot_section look start boot x None ++ end_text look.form look.expectation o
+    last_is cuts none = ap (sections_text look start boot x) none ∙ ap (λ r. boot_section look start boot x None ++ end_of look r) is
 
   -- One that is cut.
   pub next_is : (cuts : List ℕ) (cut : ℕ) (rest : List ℕ) → cuts ≡ cut ∷ rest

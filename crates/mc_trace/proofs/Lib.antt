@@ -3,7 +3,7 @@ mod CutBoots
 mod Tracing
 mod Pictured
 mod Used
-mod BootRows
+mod BootFrames
 mod Writing
 mod Headed
 mod Hinted

@@ -1,8 +1,14 @@
 -- Texts that are written one after another.
-use Rattle.std.specs.{Prelude.{ℕ, List, [], ◌++◌, Option, Result, Ok, Err}, Io.KnownBytes.{Appends}}
+use Rattle.std.specs.{Prelude.{ℕ, List, [], ◌++◌, OnErr, OnOk, Option, Result, Ok, Err}, Io.KnownBytes.{Appends}}
 use Rattle.std.proofs.{Common.{append-nil}, KnownBytes.{Appends-trans}}
 use Rattle.mc_output.specs.{Text.{AppendsPrefix}, facts.Prefixes.{out_begun, out_more, out_prefix}}
 use Rattle.mc_trace.specs.inner.Boots.{WritesText}
+
+-- What a writer says by two clauses.
+pub written : {A E : Type 0} (r : Result A E) (before new : Option (List ℕ)) (text : List ℕ) → OnOk r (Appends before new text) → OnErr r (AppendsPrefix before new text)
+    → WritesText r before new text
+written (Ok _) before new text whole prefix = whole
+written (Err _) before new text whole prefix = prefix
 
 -- A beginning of the first is one of both.
 pub first_begun : (before new : Option (List ℕ)) (a b : List ℕ) → AppendsPrefix before new a → AppendsPrefix before new (a ++ b)

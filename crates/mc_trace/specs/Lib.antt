@@ -4,8 +4,10 @@ pub mod Wear
 pub mod Sectors
 pub mod Patch
 pub mod Hints
+pub mod Runs
 pub mod SlotWords
 pub mod Verdict
 pub mod Inspection
+pub mod Frames
 pub mod Picture
 pub mod inner

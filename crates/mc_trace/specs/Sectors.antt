@@ -1,10 +1,10 @@
 -- A flash as bytes: the primary slot, and then the secondary.
 use Rattle.std.specs.{Io.KnownBytes.{Appends}, List.{between}}
-use Rattle.std.specs.Prelude.{Bool, Err, List, None, Ok, Option, Result, Some, [], bytes_eq, codes, decimal, if◌then◌else◌, length, nat_le, suc}
+use Rattle.std.specs.Prelude.{Bool, Err, List, None, Ok, Option, Result, Some, [], bytes_eq, codes, decimal, if◌then◌else◌, length, nat_le, nat_lt, suc}
 use Rattle.std.specs.Prelude.{take, zero, ℕ, ⊤, ◌&&◌, ◌*◌, ◌++◌, ◌+◌, ◌-◌, ◌==◌, ◌∷◌, ◌≡◌}
 use Rattle.mc_boot.specs.{Outcome.{after, left_by}, Plan.{PowerOn, again}}
 use Rattle.mc_explore.specs.Schedules.{CannotOccurAt}
-use Rattle.mc_flash.specs.{Flash.{Content, is_blank, sectors_of, slot_text}, Geometry.{Geometry, trailer_sectors}, declared.op.Slot.{Slot}}
+use Rattle.mc_flash.specs.{Flash.{Content, bytes_of, is_blank, sectors_of, slot_text}, Geometry.{Geometry, trailer_sectors}, declared.op.Slot.{Slot}}
 use Rattle.mc_flash.specs.declared.op.Slot.TheVariants.{Primary, Secondary}
 use Rattle.mc_output.specs.Text.{AppendsPrefix}
 use Rattle.mc_trace.specs.declared.error.TraceError.{TraceError}
@@ -41,6 +41,27 @@ first_of None None = None
 abbrev pub origin_of : Geometry → Content → List ℕ → Option (Slot × ℕ)
 origin_of g start bytes = first_of (first_like g start.primary bytes 0 g.primary) (first_like g start.secondary bytes 0 g.secondary)
 
+-- There is a sector of that number among n of a slot, and it begins with these bytes.
+abbrev pub is_like : Geometry → List ℕ → List ℕ → ℕ → ℕ → Bool
+is_like g slot bytes i n = nat_lt i n && bytes_eq (take (length bytes) (sector_of g slot i)) bytes
+
+abbrev pub second_of : Option ℕ → Option ℕ → Option (Slot × ℕ)
+second_of first (Some i) = Some (Secondary, i)
+second_of (Some i) None = Some (Primary, i)
+second_of None None = None
+
+-- Where bytes in a sector of a slot come from. Of several sectors of the start that began with them it is the same one of the other slot, or
+-- the one before it in its own, since a swap moves these there; else the first of the other slot, else of its own.
+abbrev pub source_of : Geometry → Content → Slot → ℕ → List ℕ → Option (Slot × ℕ)
+source_of g start Primary i bytes =
+    if is_like g start.secondary bytes i g.secondary then Some (Secondary, i)
+    else if is_like g start.primary bytes (i - 1) g.primary then Some (Primary, i - 1)
+    else second_of (first_like g start.primary bytes 0 g.primary) (first_like g start.secondary bytes 0 g.secondary)
+source_of g start Secondary i bytes =
+    if is_like g start.primary bytes i g.primary then Some (Primary, i)
+    else if is_like g start.secondary bytes (i - 1) g.secondary then Some (Secondary, i - 1)
+    else origin_of g start bytes
+
 -- So many of some bytes come before the blank ones at their end.
 abbrev pub used : List ℕ → ℕ
 used [] = 0
@@ -58,15 +79,18 @@ is_in_trailer g slot i = nat_le (sectors_of g slot - trailer_sectors g) i
 -- began with, and is blank then; or anything else.
 abbrev pub other_cell : Geometry → Content → Slot → ℕ → List ℕ → Cell
 other_cell g start slot i bytes =
-    if is_in_trailer g slot i then cells.Trailer else half_cell (origin_of g start (take (used bytes) bytes))
+    if is_in_trailer g slot i then cells.Trailer else half_cell (source_of g start slot i (take (used bytes) bytes))
 
 abbrev pub held_or : Option (Slot × ℕ) → Cell → Cell
 held_or (Some (slot, i)) rest = cells.Held slot i
 held_or None rest = rest
 
--- What lies in a sector of a slot.
+-- What lies in a sector of a slot: nothing; what it held itself at the start; what another held; or something else.
 unfoldable pub cell_of : Geometry → Content → Slot → ℕ → List ℕ → Cell
-cell_of g start slot i bytes = if is_blank bytes then cells.Blank else held_or (origin_of g start bytes) (other_cell g start slot i bytes)
+cell_of g start slot i bytes =
+    if is_blank bytes then cells.Blank
+    else if bytes_eq (sector_of g (bytes_of start slot) i) bytes then cells.Held slot i
+    else held_or (source_of g start slot i bytes) (other_cell g start slot i bytes)
 
 -- The same where no start is known.
 abbrev pub plain_cell : Geometry → Slot → ℕ → List ℕ → Cell

@@ -1,7 +1,7 @@
 //! What lies in a sector of a flash.
-ghost use Rattle.std.specs.Prelude.{◌≡◌, ◌<◌, ◌≤◌, ◌+◌, ◌++◌, decimal, length};
-ghost use Rattle.mc_flash.specs.Flash.{sectors_of, size_of};
-ghost use Rattle.mc_trace.specs.Sectors.{cell_of, cell_word, first_like, is_in_trailer, letter, origin_of, other_cell, plain_cell, sector_of, used};
+ghost use Rattle.std.specs.Prelude.{◌≡◌, ◌<◌, ◌≤◌, ◌+◌, ◌++◌, bytes_eq, decimal, length};
+ghost use Rattle.mc_flash.specs.Flash.{bytes_of, sectors_of, size_of};
+ghost use Rattle.mc_trace.specs.Sectors.{cell_of, cell_word, first_like, is_in_trailer, is_like, letter, origin_of, other_cell, plain_cell, second_of, sector_of, source_of, used};
 
 use mc_explore::Start;
 use mc_flash::{Layout, Slot, blank};
@@ -12,11 +12,13 @@ use mc_output::{Line, MOST_LINE};
 pub enum Cell {
     /// Nothing.
     Blank,
-    /// What that sector held at the start, the first such, the primary's before the secondary's.
+    /// What that sector held at the start. Of several it is the same sector, else the same one of the other slot, the one before it, the
+    /// first of the other slot, or the first of its own.
     Held(Slot, u32),
     /// A part of the trailer.
     Trailer,
-    /// What that sector began with at the start, the first such, and nothing after it: a copy that is not done.
+    /// What that sector began with at the start, and nothing after it: a copy that is not done. Of several it is the same one of the other
+    /// slot, the one before it, the first of the other slot, or the first of its own.
     Half(Slot, u32),
     /// Anything else.
     Other,
@@ -71,6 +73,90 @@ pub(crate) fn origin_of(start: &Start, wanted: &[u8]) -> Option<(Slot, u32)>
     Some((Slot::Secondary, sector))
 }
 
+// Whether a slot has a sector of that number, and it begins with these bytes.
+fn is_like(layout: &Layout, slot: Slot, bytes: &[u8], sector: u32, wanted: &[u8]) -> bool
+    requires len { length bytes.now ≡ size_of layout.now slot }
+    requires wanted { length wanted.now ≤ layout.now.sector }
+    ensures { result ≡ is_like layout.now bytes.now wanted.now sector (sectors_of layout.now slot) }
+{
+    if sector >= layout.sectors(slot) {
+        return false;
+    }
+    &sector_of(layout, slot, bytes, sector)[..wanted.len()] == wanted
+}
+
+// The first sector of the start that begins with these bytes, the secondary's before the primary's.
+fn second_origin_of(start: &Start, wanted: &[u8]) -> Option<(Slot, u32)>
+    requires { length wanted.now ≤ start.now.geometry.sector }
+    ensures { let s = start.now in result
+        ≡ second_of (first_like s.geometry s.content.primary wanted.now 0 s.geometry.primary)
+        (first_like s.geometry s.content.secondary wanted.now 0 s.geometry.secondary) }
+{
+    let layout = start.layout();
+    if let Some(sector) = first_like(layout, Slot::Secondary, start.secondary(), wanted) {
+        return Some((Slot::Secondary, sector));
+    }
+    let sector = first_like(layout, Slot::Primary, start.primary(), wanted)?;
+    Some((Slot::Primary, sector))
+}
+
+// The sector of the start from which bytes in a sector of the primary come.
+fn source_in_primary(start: &Start, sector: u32, wanted: &[u8]) -> Option<(Slot, u32)>
+    requires { length wanted.now ≤ start.now.geometry.sector }
+    ensures { result
+        ≡ source_of start.now.geometry start.now.content Slot.Primary sector wanted.now }
+{
+    let (layout, before) = (start.layout(), sector.saturating_sub(1));
+    if is_like(layout, Slot::Secondary, start.secondary(), sector, wanted) {
+        return Some((Slot::Secondary, sector));
+    }
+    if is_like(layout, Slot::Primary, start.primary(), before, wanted) {
+        return Some((Slot::Primary, before));
+    }
+    second_origin_of(start, wanted)
+}
+
+// The sector of the start from which bytes in a sector of the secondary come.
+fn source_in_secondary(start: &Start, sector: u32, wanted: &[u8]) -> Option<(Slot, u32)>
+    requires { length wanted.now ≤ start.now.geometry.sector }
+    ensures { result
+        ≡ source_of start.now.geometry start.now.content Slot.Secondary sector wanted.now }
+{
+    let (layout, before) = (start.layout(), sector.saturating_sub(1));
+    if is_like(layout, Slot::Primary, start.primary(), sector, wanted) {
+        return Some((Slot::Primary, sector));
+    }
+    if is_like(layout, Slot::Secondary, start.secondary(), before, wanted) {
+        return Some((Slot::Secondary, before));
+    }
+    origin_of(start, wanted)
+}
+
+// The sector of the start from which bytes in a sector of a slot come.
+fn source_of(start: &Start, at: (Slot, u32), wanted: &[u8]) -> Option<(Slot, u32)>
+    requires { length wanted.now ≤ start.now.geometry.sector }
+    ensures { result ≡ source_of start.now.geometry start.now.content at.0 at.1 wanted.now }
+{
+    match at.0 {
+        Slot::Primary => source_in_primary(start, at.1, wanted),
+        Slot::Secondary => source_in_secondary(start, at.1, wanted),
+    }
+}
+
+// Whether a sector of a slot holds what it held at the start.
+fn is_as_before(start: &Start, at: (Slot, u32), bytes: &[u8]) -> bool
+    requires { at.1 < sectors_of start.now.geometry at.0 }
+    ensures { let s = start.now in result
+        ≡ bytes_eq (sector_of s.geometry (bytes_of s.content at.0) at.1) bytes.now }
+{
+    let (slot, sector) = at;
+    let held = match slot {
+        Slot::Primary => start.primary(),
+        Slot::Secondary => start.secondary(),
+    };
+    sector_of(start.layout(), slot, held, sector) == bytes
+}
+
 // How many bytes come before the blank ones at the end.
 fn used(bytes: &[u8]) -> usize
     ensures value { result ≡ used bytes.now }
@@ -98,11 +184,10 @@ fn other_cell(start: &Start, at: (Slot, u32), bytes: &[u8]) -> Cell
     requires { length bytes.now ≡ start.now.geometry.sector }
     ensures { result ≡ other_cell start.now.geometry start.now.content at.0 at.1 bytes.now }
 {
-    let (slot, sector) = at;
-    if is_in_trailer(start.layout(), slot, sector) {
+    if is_in_trailer(start.layout(), at.0, at.1) {
         return Cell::Trailer;
     }
-    match origin_of(start, &bytes[..used(bytes)]) {
+    match source_of(start, at, &bytes[..used(bytes)]) {
         Some((slot, sector)) => Cell::Half(slot, sector),
         None => Cell::Other,
     }
@@ -111,13 +196,17 @@ fn other_cell(start: &Start, at: (Slot, u32), bytes: &[u8]) -> Cell
 /// What lies in a sector of a slot that holds these bytes. It takes no memory.
 #[tactic(auto, unfolding(crate::specs::Sectors::cell_of))]
 pub fn cell_of(start: &Start, at: (Slot, u32), bytes: &[u8]) -> Cell
-    requires { length bytes.now ≡ start.now.geometry.sector }
+    requires len { length bytes.now ≡ start.now.geometry.sector }
+    requires inside { at.1 < sectors_of start.now.geometry at.0 }
     ensures { result ≡ cell_of start.now.geometry start.now.content at.0 at.1 bytes.now }
 {
     if blank(bytes) {
         return Cell::Blank;
     }
-    match origin_of(start, bytes) {
+    if is_as_before(start, at, bytes) {
+        return Cell::Held(at.0, at.1);
+    }
+    match source_of(start, at, bytes) {
         Some((slot, sector)) => Cell::Held(slot, sector),
         None => other_cell(start, at, bytes),
     }

@@ -2,10 +2,13 @@
 //! from the start; and a layout in numbers.
 #![tactic(auto)]
 
-mod boot_rows;
+mod boot_frames;
 mod boots;
 mod cells;
 mod error;
+mod frame;
+mod frames;
+mod header;
 mod hints;
 mod inspection;
 mod layout;
@@ -13,10 +16,10 @@ mod operation;
 mod page;
 mod patch;
 mod picture;
-mod picture_rows;
 mod runs;
 mod sections;
 mod sectors;
+mod slot_cells;
 mod slot_words;
 mod slots;
 mod trace;
@@ -25,6 +28,7 @@ mod wear;
 
 pub use cells::Words;
 pub use error::TraceError;
+pub use frames::write_frames;
 pub use inspection::write_inspection;
 pub use layout::write_layout;
 pub use patch::write_patch;

@@ -1,23 +1,25 @@
-//! A picture of a schedule: one page that a browser shows.
-ghost use Rattle.std.specs.Prelude.{◌≡◌, ◌+◌, ◌⊎◌, [], false, true, length, IfErr, IfOk, IsErrOf, OnErr, OnOk};
+//! The frames of a schedule as one page that a browser shows, with what all schedules come to.
+ghost use Rattle.std.specs.Prelude.{◌≡◌, ◌+◌, ◌⊎◌, ◌≤◌, [], IfErr, IfOk, IsErrOf, OnErr, OnOk, false, length, true};
 ghost use Rattle.mc_explore.specs.Schedules.{CanOccur};
 ghost use Rattle.mc_start.specs.Start.{begun};
 ghost use Rattle.mc_trace.specs.inner.Boots.{WritesText};
-ghost use Rattle.mc_trace.specs.inner.Rows.{IsReady};
+ghost use Rattle.mc_trace.specs.inner.Walking.{IsReady};
 ghost use Rattle.mc_trace.specs.Trace.{RefusesTrace};
-ghost use Rattle.mc_trace.specs.Picture.{BeginsPicture, Draws, IsVerdict, intro_text, look_for, opening_text, page_text};
+ghost use Rattle.mc_trace.specs.Picture.{BeginsPicture, Draws, IsVerdict, opening_text, page_by, page_look, right_begin, rights_begin, verdict_text};
 
 use crate::error::TraceError;
-use crate::page::{HEAD, LEGEND};
-use crate::picture_rows::Look;
-use crate::sections::{pre_begin, write_sections};
+use crate::frame::{Form, Look};
+use crate::frames::walk_along;
+use crate::header::write_header;
+use crate::page::{HEAD, LEGEND, NOTE};
+use crate::sections::write_sections;
 use crate::trace::Span;
 use mc_explore::{
-    Census, Expectation, OneRound, Rights, Schedule, Schedules, Start, census_line, load_walk,
-    replay, rights_line, take_census, take_rights,
+    Census, Expectation, OneRound, Rights, Schedule, Schedules, Start, census_line, rights_line,
+    take_census, take_rights,
 };
 use mc_flash::{Flash, Layout, Slot};
-use mc_output::{Line, write_line, write_text};
+use mc_output::{Line, WriteFailed, write_line, write_text};
 use mc_walk::Walk;
 use std::alloc::Global;
 use std::io::Write;
@@ -49,54 +51,69 @@ fn verdict_of<F: Flash>(
 }
 
 // How the page of a layout looks.
-fn look_for(layout: &Layout, expectation: &Expectation, span: Span) -> Look
-    ensures { result ≡ look_for layout.now expectation.now span }
+fn page_look(layout: &Layout, expectation: &Expectation, span: Span) -> Look
+    ensures { result ≡ page_look layout.now expectation.now span }
 {
     let (primary, secondary) = (
         layout.sectors(Slot::Primary),
         layout.sectors(Slot::Secondary),
     );
     Look {
+        form: Form::Page,
         merges: u64::from(primary) + u64::from(secondary) > 24,
         expectation: *expectation,
         span,
     }
 }
 
-// The schedule, and how many are right.
-fn intro_line(schedule: &Schedule, rights: &Rights) -> Line
-    ensures { result ≡ intro_text schedule.now rights.now }
+// How a text begins that says that all is right, or not.
+fn right_begin(right: bool) -> &'static str
+    ensures value { result.now ≡ right_begin right }
+    ensures length { length result.now ≤ 20 }
+{
+    if right {
+        "<pre class=\"y\">"
+    } else {
+        "<pre class=\"u\">"
+    }
+}
+
+// How many are right.
+fn rights_text(rights: &Rights) -> Line
+    ensures { result ≡ rights_begin rights.now }
 {
     let mut line = Line::new();
-    line.put("<h1>schedule ");
-    schedule.put_into(&mut line);
-    line.put("</h1>\n");
-    line.put(pre_begin(rights.first_not_right.is_none()));
+    line.put(right_begin(rights.first_not_right.is_none()));
     line.put(rights_line::<Schedules>(rights).as_str());
     line
 }
 
-// Writes what stands before the boots.
-fn write_opening<W: Write>(
-    verdict: &Verdict,
-    schedule: &Schedule,
-    writer: &mut W,
-) -> Result<(), TraceError>
-    ensures written { WritesText result (W.contents writer.old) (W.contents writer.new)
-        (opening_text schedule.now verdict.now) }
-    ensures err { IfErr result (λ e. e ≡ TraceError.Write) }
+impl Verdict {
+    // Writes how many are right, and the census.
+    fn write<W: Write>(&self, writer: &mut W) -> Result<(), WriteFailed>
+        ensures { WritesText result (W.contents writer.old) (W.contents writer.new)
+            (verdict_text self.now) }
+    {
+        write_line(writer, &rights_text(&self.rights))?;
+        write_line(writer, &census_line::<Schedules>(&self.census))
+    }
+}
+
+// Writes how a page begins, and the verdict.
+fn write_opening<W: Write>(verdict: &Verdict, writer: &mut W) -> Result<(), WriteFailed>
+    ensures { WritesText result (W.contents writer.old) (W.contents writer.new)
+        (opening_text verdict.now) }
 {
     write_text(writer, HEAD.as_bytes())?;
-    write_line(writer, &intro_line(schedule, &verdict.rights))?;
-    write_line(writer, &census_line::<Schedules>(&verdict.census))?;
-    write_text(writer, LEGEND.as_bytes())?;
-    Ok(())
+    verdict.write(writer)?;
+    write_text(writer, NOTE.as_bytes())
 }
 
 // Writes the page by a walk that is at its root.
 fn write_page<F: Flash, W: Write>(
     walk: &mut Walk<F, OneRound<'_>>,
     verdict: &Verdict,
+    version: &str,
     start: &Start,
     schedule: &Schedule,
     look: &Look,
@@ -105,36 +122,42 @@ fn write_page<F: Flash, W: Write>(
     requires ready { IsReady (begun start.now) (length schedule.now + 1) walk.old }
     requires root { walk.old.path ≡ [] }
     requires occurs { CanOccur (begun start.now) schedule.now }
+    requires version { length version.now ≤ 40 }
     ensures written { WritesText result (W.contents writer.old) (W.contents writer.new)
-        (page_text look.now (begun start.now) schedule.now verdict.now) }
+        (page_by look.now version.now start.now schedule.now verdict.now) }
     ensures cause { IsErrOf result TraceError.Memory → walk.old.seen.usage.limits.counted ≡ false }
     ensures err { IfErr result (λ e. (e ≡ TraceError.Memory) ⊎ (e ≡ TraceError.Write)) }
 {
-    write_opening(verdict, schedule, writer)?;
+    write_opening(verdict, writer)?;
+    write_header(version, start, &look.expectation, schedule, writer)?;
+    write_text(writer, LEGEND.as_bytes())?;
     write_sections(walk, 0, schedule.cuts(), start, look, writer)
 }
 
-/// Writes a page that a browser shows: what all schedules of at most 16 cuts come to, and how many of them are right; then for each boot
-/// of a schedule the rows of its operations up to the cut that lie in a span, each with the flash before it, cell by cell, what a cut there
-/// comes to, and whether that is right; and the outcome of the last boot. It loads a flash as an explorer does, and takes no memory for the text.
+/// Writes a page that a browser shows: what all schedules of at most 16 cuts come to, and how many of them are right; what the page is of;
+/// then for each boot of a schedule a row for each of its operations up to the cut that lies in a span, with the flash before it, sector by
+/// sector, what a cut there comes to, and whether that is right; and the outcome of the last boot. It loads a flash as an explorer does, and
+/// takes no memory for the text.
 /// Promised: a schedule's page (`drawn`, `begun`, `refused`, `occurs`, `cause`, `IsPicture`).
 ///
 /// # Errors
 ///
-/// `CannotOccur` with the number of the first cut that can't occur: nothing is written then. `Memory`, `Write`: a beginning of
-/// the page is out, or nothing.
+/// `CannotOccur` with the number of the first cut that can't occur: nothing is written then. `Memory`, `Write`: a prefix of the page is
+/// out, or nothing.
 pub fn write_picture<F: Flash + Drop, W: Write>(
     alloc: Global,
+    version: &str,
     start: &Start,
     schedule: &Schedule,
     expectation: &Expectation,
     span: Span,
     writer: &mut W,
 ) -> Result<(), TraceError>
-    ensures drawn { OnOk result (Draws expectation.now span (begun start.now) schedule.now
+    requires { length version.now ≤ 40 }
+    ensures drawn { OnOk result (Draws version.now expectation.now span start.now schedule.now
         (W.contents writer.old) (W.contents writer.new)) }
     ensures begun { OnErr result ((W.contents writer.new ≡ W.contents writer.old)
-        ⊎ BeginsPicture expectation.now span (begun start.now) schedule.now
+        ⊎ BeginsPicture version.now expectation.now span start.now schedule.now
         (W.contents writer.old) (W.contents writer.new)) }
     ensures refused { IfErr result (RefusesTrace (begun start.now) schedule.now writer.old
         writer.new) }
@@ -142,12 +165,8 @@ pub fn write_picture<F: Flash + Drop, W: Write>(
     // A flash that counts is loaded with enough room before anything is written.
     ensures cause { F.counted ≡ true → IsErrOf result TraceError.Memory → writer.new ≡ writer.old }
 {
-    // Nothing is written of a schedule that can't occur.
-    let _ = replay::<F>(alloc, start, schedule)?;
+    let mut walk = walk_along::<F>(alloc, start, schedule)?;
     let verdict = verdict_of::<F>(alloc, start, expectation)?;
-    let look = look_for(start.layout(), expectation, span);
-    let boots = schedule.cuts().len() as u8 + 1;
-    let mut walk: Walk<F, OneRound<'_>> = load_walk(alloc, start, boots)?;
-    walk.begin()?;
-    write_page(&mut walk, &verdict, start, schedule, &look, writer)
+    let look = page_look(start.layout(), expectation, span);
+    write_page(&mut walk, &verdict, version, start, schedule, &look, writer)
 }

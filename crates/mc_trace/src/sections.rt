@@ -1,60 +1,104 @@
-//! The boots of a schedule, a section of the page for each.
-ghost use Rattle.std.specs.Prelude.{◌≡◌, ◌+◌, ◌<◌, ◌≤◌, ◌⊎◌, false, length, IfErr, IfSome, IsErrOf, OnOk};
+//! The boots of a schedule, a section for each.
+ghost use Rattle.std.specs.Prelude.{◌≡◌, ◌+◌, ◌<◌, ◌≤◌, ◌++◌, ◌⊎◌, IfErr, IfSome, IsErrOf, OnOk, false, length};
 ghost use Rattle.mc_boot.specs.Outcome.{ops_of, shown};
 ghost use Rattle.mc_explore.specs.Schedules.{CanOccur};
 ghost use Rattle.mc_explore.specs.facts.Children.{IsAtChild};
 ghost use Rattle.mc_explore.specs.inner.LastCuts.{boot_at};
 ghost use Rattle.mc_start.specs.Start.{begun};
 ghost use Rattle.mc_trace.specs.inner.Boots.{WritesText};
-ghost use Rattle.mc_trace.specs.inner.Rows.{IsReady, model_of};
-ghost use Rattle.mc_trace.specs.Picture.{boot_section, end_text, heading_text, pre_begin, sections_text};
+ghost use Rattle.mc_trace.specs.inner.Walking.{IsReady, model_of};
+ghost use Rattle.mc_trace.specs.Frames.{boot_section, column_text, columns_text, end_text, heading, heading_text, sections_text};
 
-use crate::boot_rows::write_boot_rows;
+use crate::boot_frames::write_boot_frames;
 use crate::error::TraceError;
-use crate::picture_rows::Look;
+use crate::frame::{Form, Look, Sign};
 use mc_boot::Outcome;
 use mc_explore::{OneRound, Start};
-use mc_flash::Flash;
-use mc_output::{Line, write_line, write_text};
+use mc_flash::{Flash, Layout, Slot};
+use mc_output::{Line, MOST_LINE, write_line};
 use mc_walk::Walk;
 use std::io::Write;
 
-// The number of a boot, its type, and how many operations it makes uncut.
-fn heading(boot: u32, outcome: &Outcome) -> Line
-    ensures { result ≡ heading_text boot (shown outcome.now) }
+// Adds the number of a boot, its type, and how many operations it makes uncut to a line.
+fn put_heading(line: &mut Line, boot: u32, outcome: &Outcome)
+    requires { length line.old + 40 ≤ MOST_LINE }
+    ensures text { line.new ≡ line.old ++ heading_text boot (shown outcome.now) }
+    ensures length { length line.new ≤ length line.old + 40 }
 {
-    let mut line = Line::new();
-    line.put("<section><h2>boot ");
+    line.put("boot ");
     line.put_number(boot);
     line.put(" ");
     line.put(outcome.kind.name());
-    line.put(", ops ");
+    line.put(" ");
     line.put_number(outcome.ops);
-    line.put("</h2>\n");
+}
+
+// Adds the name of a slot over its sectors to a line.
+fn put_column(line: &mut Line, layout: &Layout, slot: Slot)
+    requires { length line.old + 45 ≤ MOST_LINE }
+    ensures text { line.new ≡ line.old ++ column_text layout.now slot }
+    ensures length { length line.new ≤ length line.old + 45 }
+{
+    line.put("<i style=\"flex:");
+    line.put_number(layout.sectors(slot));
+    line.put("\">");
+    line.put(slot.name());
+    line.put("</i>");
+}
+
+// Adds the names of both slots over their sectors to a line.
+fn put_columns(line: &mut Line, layout: &Layout)
+    requires { length line.old + 140 ≤ MOST_LINE }
+    ensures { line.new ≡ line.old ++ columns_text layout.now }
+{
+    line.put("<div class=\"r s\"><b></b>");
+    put_column(line, layout, Slot::Primary);
+    line.put("<u></u>");
+    put_column(line, layout, Slot::Secondary);
+    line.put("</div>\n");
+}
+
+// How a boot begins.
+fn heading(form: Form, layout: &Layout, boot: u32, outcome: &Outcome) -> Line
+    ensures { result ≡ heading form layout.now boot (shown outcome.now) }
+{
+    let mut line = Line::new();
+    match form {
+        Form::Text => {
+            put_heading(&mut line, boot, outcome);
+            line.put("\n");
+        }
+        Form::Page => {
+            line.put("<h2>");
+            put_heading(&mut line, boot, outcome);
+            line.put("</h2>\n");
+            put_columns(&mut line, layout);
+        }
+    }
     line
 }
 
-/// How a text begins that says what is right, or what is not.
-pub(crate) fn pre_begin(right: bool) -> &'static str
-    ensures value { result.now ≡ pre_begin right }
-    ensures length { length result.now ≤ 20 }
-{
-    if right {
-        "<pre class=\"y\">"
-    } else {
-        "<pre class=\"z\">"
-    }
-}
-
-// The outcome of the last boot, and the end of the page.
+// The outcome of the last boot, and the end.
 fn end_line(look: &Look, outcome: &Outcome) -> Line
-    ensures { result ≡ end_text look.now.expectation (shown outcome.now) }
+    ensures { result ≡ end_text look.now.form look.now.expectation (shown outcome.now) }
 {
+    let sign = Sign::of(&look.expectation, outcome);
     let mut line = Line::new();
-    line.put("<section><h2>outcome</h2>\n");
-    line.put(pre_begin(look.expectation.is_right(outcome)));
-    outcome.put_into(&mut line);
-    line.put("</pre>\n</section>\n</html>\n");
+    match look.form {
+        Form::Text => {
+            outcome.put_into(&mut line);
+            line.put("ends ");
+            line.put(sign.name());
+            line.put("\n");
+        }
+        Form::Page => {
+            line.put("<h2>outcome</h2>\n<pre class=\"");
+            line.put(sign.class());
+            line.put("\">");
+            outcome.put_into(&mut line);
+            line.put("</pre>\n</html>\n");
+        }
+    }
     line
 }
 
@@ -77,18 +121,17 @@ fn write_section<F: Flash, W: Write>(
     ensures cause { IsErrOf result TraceError.Memory → walk.old.seen.usage.limits.counted ≡ false }
     ensures err { IfErr result (λ e. (e ≡ TraceError.Memory) ⊎ (e ≡ TraceError.Write)) }
 {
-    write_line(writer, &heading(boot, &walk.summary().outcome))?;
-    write_boot_rows(walk, cut, start, look, writer)?;
-    write_text(writer, b"</section>\n")?;
-    Ok(())
+    let line = heading(look.form, start.layout(), boot, &walk.summary().outcome);
+    write_line(writer, &line)?;
+    write_boot_frames(walk, boot, cut, start, look, writer)
 }
 
 /// Writes the sections of the boots from the node at which a walk stands: those that the cuts cut, the last one and its outcome, and
-/// the end of the page.
+/// the end.
 ///
 /// # Errors
 ///
-/// `Memory` where the flash was refused memory, which one that counts never is; `Write`. A beginning of them is out.
+/// `Memory` where the flash was refused memory, which one that counts never is; `Write`. A prefix of them is out.
 pub fn write_sections<F: Flash, W: Write>(
     walk: &mut Walk<F, OneRound<'_>>,
     boot: u32,

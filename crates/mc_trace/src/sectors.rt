@@ -1,6 +1,6 @@
 //! A picture of a flash: what lies in each sector.
-ghost use Rattle.std.specs.Prelude.{◌≡◌, ◌++◌, codes, length, IfErr, IfOk, OnOk, string_bytes};
-ghost use Rattle.mc_flash.specs.Flash.{size_of};
+ghost use Rattle.std.specs.Prelude.{◌≡◌, ◌<◌, ◌++◌, codes, length, IfErr, IfOk, OnOk, string_bytes};
+ghost use Rattle.mc_flash.specs.Flash.{sectors_of, size_of};
 ghost use Rattle.mc_start.specs.Start.{begun};
 ghost use Rattle.mc_trace.specs.Sectors.{IsAt, Pictures, PicturesAs, RefusesPicture, line_of, sector_word};
 
@@ -32,7 +32,8 @@ pub struct View {
 
 // The word of a sector that holds these bytes, after a space.
 fn next_word(start: &Start, words: Words, at: (Slot, u32), bytes: &[u8]) -> Line
-    requires { length bytes.now ≡ start.now.geometry.sector }
+    requires len { length bytes.now ≡ start.now.geometry.sector }
+    requires inside { at.1 < sectors_of start.now.geometry at.0 }
     ensures { result ≡ codes " " ++ sector_word words start.now.geometry start.now.content at.0 at.1
         bytes.now }
 {

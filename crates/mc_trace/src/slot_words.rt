@@ -1,57 +1,26 @@
 //! The sectors of a slot in words, those that go on with one another as one.
-ghost use Rattle.std.specs.Prelude.{◌≡◌, ◌+◌, ◌<◌, ◌≤◌, ◌++◌, false, length, true, IfOk, IfSome, OnOk, option_map, string_bytes};
+ghost use Rattle.std.specs.Prelude.{◌≡◌, ◌<◌, ◌≤◌, ◌++◌, false, length, true, IfOk, IfSome, OnOk, option_map, string_bytes};
 ghost use Rattle.mc_flash.specs.Flash.{sectors_of, size_of};
-ghost use Rattle.mc_trace.specs.Picture.{before_by, next_run};
+ghost use Rattle.mc_trace.specs.Runs.{before_by, next_run};
 ghost use Rattle.mc_trace.specs.Sectors.{cell_by, sector_of};
-ghost use Rattle.mc_trace.specs.SlotWords.{cells_by, letter_in, reach_text, run_word, run_words, sectors_text};
+ghost use Rattle.mc_trace.specs.SlotWords.{cells_by, run_words, sectors_text, spaced_word};
 
-use crate::cells::{Cell, Words, cell_of, plain_cell, sector_of};
-use crate::runs::{Run, sector_in};
+use crate::cells::{Cell, cell_of, plain_cell, sector_of};
+use crate::runs::Run;
 use mc_explore::Start;
 use mc_flash::{Layout, Slot};
-use mc_output::{Line, MOST_LINE};
+use mc_output::Line;
 use std::alloc::AllocError;
 
-// The letter of a cell that holds what a sector of the start held.
-fn letter_in(cell: Cell) -> &'static str
-    ensures value { result.now ≡ letter_in cell }
-    ensures length { length result.now ≤ 1 }
+// The word of a run, after a space.
+fn word_of(run: &Run) -> Line
+    requires { 1 ≤ run.now.count }
+    ensures { result ≡ spaced_word run.now }
 {
-    match cell {
-        Cell::Held(Slot::Primary, _) => "a",
-        Cell::Held(Slot::Secondary, _) => "b",
-        _ => "",
-    }
-}
-
-impl Run {
-    // Adds how far it goes to a line: its last sector of the start, or how many cells it has, where there is more than one.
-    fn put_reach(&self, line: &mut Line)
-        requires one { 1 ≤ self.now.count }
-        requires room { length line.old + 23 ≤ MOST_LINE }
-        ensures text { line.new ≡ line.old ++ reach_text self.now }
-    {
-        if self.rises {
-            line.put("..");
-            line.put(letter_in(self.first));
-            line.put_long_number(u64::from(sector_in(self.first)) + u64::from(self.count - 1));
-        } else if self.count > 1 {
-            line.put("x");
-            line.put_number(self.count);
-        }
-    }
-
-    // Its word, after a space.
-    fn word(&self) -> Line
-        requires { 1 ≤ self.now.count }
-        ensures { result ≡ run_word self.now }
-    {
-        let mut line = Line::new();
-        line.put(" ");
-        self.first.put_into(Words::All, &mut line);
-        self.put_reach(&mut line);
-        line
-    }
+    let mut line = Line::new();
+    line.put(" ");
+    run.put_word(&mut line);
+    line
 }
 
 // The run after one more cell. Where that begins a new one, the word of this one is appended.
@@ -59,12 +28,12 @@ fn next_run(text: &mut String, run: &Run, cell: Cell) -> Result<Run, AllocError>
     requires { (1 ≤ run.now.count) × (run.now.count < 4294967295) }
     ensures run { IfOk result (λ next. next ≡ next_run true run.now (cell, false)) }
     ensures text { OnOk result (string_bytes text.new ≡ string_bytes text.old
-        ++ before_by run_word true run.now (cell, false)) }
+        ++ before_by spaced_word true run.now (cell, false)) }
 {
     if run.joins(true, (cell, false)) {
         return Ok(run.with(cell));
     }
-    text.push_str(run.word().as_str())?;
+    text.push_str(word_of(run).as_str())?;
     Ok(Run::of((cell, false)))
 }
 
@@ -102,7 +71,7 @@ fn push_words(
     for sector in 1..sectors {
         run = next_run(text, &run, cell_in(layout, named, slot, bytes, sector))?;
     }
-    text.push_str(run.word().as_str())
+    text.push_str(word_of(&run).as_str())
 }
 
 /// Appends the line of what lies in the sectors of a slot with these bytes, by what lies in those of a named flash of the same layout, if

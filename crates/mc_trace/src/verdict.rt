@@ -44,8 +44,8 @@ fn holds(image: &ImageId, held: &Option<ImageId>) -> bool
     }
 }
 
-// Whether a boot that ends so runs an image.
-fn is_boot(how: BootResult) -> bool
+/// Whether a boot that ends so runs an image.
+pub(crate) fn is_boot(how: BootResult) -> bool
     ensures { result ≡ is_boot how }
 {
     match how {

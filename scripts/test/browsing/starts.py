@@ -44,23 +44,20 @@ class Start:
         return dict(line.split(" ", 1) for line in self.say("replay", "--schedule", text_of(cuts)).splitlines())
 
     def sectors(self, cuts, end=False):
-        """The words of both slots as the page shows them: where several sectors of the start hold the same bytes, not the first of them, as the
-        program does, but the one of the same place, or else the first of the named image. That is found in the flash's own bytes."""
+        """The words of both slots. Where several sectors of the start hold the same bytes, which of them is named is found in these bytes."""
         lines = self.say("sectors", "--schedule", text_of(cuts), "--words", "all", *(["--end"] if end else [])).splitlines()
-        return [[self.word_at(word, f"{LETTERS[slot]}{number}") for number, word in enumerate(words)]
-                for slot, *words in map(str.split, lines)]
+        return [[self.word_at(word, LETTERS[slot], number) for number, word in enumerate(words)] for slot, *words in map(str.split, lines)]
 
-    def word_at(self, word, place):
-        """The word for a sector, of the program's word and the sector's place."""
+    def word_at(self, word, own, number):
+        """The word for a sector, of the program's word, the letter of its slot and its number."""
         whole = word.rstrip("~")
         if not re.fullmatch(r"[ab]\d+", whole):
             return word
-        places = self.places()
+        places, other = self.places(), "ab".replace(own, "")
         like = [it for it, data in places.items() if data == places[whole]]
-        if word == whole and place in like:
-            return place
-        named = [it for it in like if it[0] == NAMED.get(self.kind) and it != place]
-        return word.replace(whole, (named or [whole])[0])
+        same = [f"{own}{number}"] if word == whole else []
+        order = [*same, f"{other}{number}", f"{own}{max(number - 1, 0)}", *(it for it in like if it[0] == other), *(it for it in like if it[0] == own)]
+        return word.replace(whole, next(it for it in order if it in like))
 
     def places(self):
         """The bytes of each sector of the start, by its place: the primary's first."""

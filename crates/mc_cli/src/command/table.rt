@@ -57,7 +57,7 @@ impl Group {
             Group::Replay => Some("Replay"),
             Group::Trace => Some("Trace"),
             Group::Sectors => Some("Sectors"),
-            Group::Picture => Some("Picture"),
+            Group::Picture => Some("Frames"),
             Group::Tears => Some("Tears"),
             Group::Vectors => Some("Vectors"),
             Group::Dump => Some("Dump"),
@@ -756,19 +756,29 @@ operations of each boot, and nothing else.";
 
 const AFTER_SECTORS: &str = "\
 A line for each slot, a word for each sector: `-` where it is blank, `aN` or `bN` where it holds what
-sector N of the primary or of the secondary held at the start (the first such), `*` where it holds
-something else:
+sector N of the primary or of the secondary held at the start, `*` where it holds something else. Of
+several such it names the same sector, else one from which a swap copies there, else the first:
   primary a0 - * *
   secondary b0 - -
 With --words all, `t` replaces `*` where that sector is the trailer's, and `aN~` or `bN~` where it
 begins as sector N did and is blank from there on: an unfinished copy.";
 
+const AFTER_FRAMES: &str = "\
+First what the lines are of: version, layout, rules, the images that are named (of a flash its digest, as
+in a cursor), what is expected of the slots, and the schedule. Then for each boot its number, type and
+operations, and a line for each operation up to the cut, with tabs between the fields: boot, number, `cut`
+where power fails before it, the operation, the sector that it changes, the words of both slots before it,
+the outcome after a cut there, and whether that is `right`, `wrong` (it boots) or `no-boot`. At the end the
+outcome of the last boot, and which of these it is. The words are those of `sectors --words all`; sectors
+that continue one another are one: a2..a9, -x3. Right is a boot with both images where they belong; from a
+flash, with the expected ones, or any.
+Example:
+  mcsim frames [LAYOUT] [SOURCE] --schedule 9.4 | grep cut";
+
 const AFTER_PICTURE: &str = "\
-Prints one HTML file with no script, for any browser: first how all schedules of at most 16 cuts end
-and how many of them end right; then for each boot a row for each operation, with the sectors before it,
-how a cut there ends and whether that is right; the outcome last. Right is a boot with both images where
-they belong; from a flash, with the expected ones, or any. At most 20,000 operations are drawn: of
-longer boots --from and --to say which.
+Prints one HTML file with no script, for any browser: how all schedules of at most 16 cuts end and how
+many of them end right; and then what `frames` prints, a row for each operation. At most 20,000 operations
+are drawn: of longer boots --from and --to say which.
 Example:
   mcsim picture [LAYOUT] [SOURCE] --schedule 9.4 > swap.html";
 
@@ -1014,7 +1024,7 @@ static BOOTS: [Subcommand; 5] = [
     },
 ];
 
-static FLASHES: [Subcommand; 6] = [
+static FLASHES: [Subcommand; 7] = [
     Subcommand {
         name: "sectors",
         aliases: &[],
@@ -1028,6 +1038,14 @@ static FLASHES: [Subcommand; 6] = [
             Group::Sectors,
             Group::Rounds,
         ],
+    },
+    Subcommand {
+        name: "frames",
+        aliases: &[],
+        about: "Print the boots of a schedule, with the sectors and the outcome at each operation",
+        usage: Some("mcsim frames <LAYOUT> <SOURCE> [OPTIONS]"),
+        after_help: Some(AFTER_FRAMES),
+        groups: &[Group::Layout, Group::Source, Group::Rules, Group::Picture],
     },
     Subcommand {
         name: "picture",

@@ -109,6 +109,7 @@ trace WORKED --kind test IMAGES
 trace WORKED --kind test IMAGES --rounds 2
 sectors WORKED --kind test IMAGES
 sectors WORKED --kind test IMAGES --rounds 2
+frames WORKED --kind test IMAGES
 picture WORKED --kind test IMAGES
 vectors WORKED --kind test IMAGES --cuts 1
 explore WORKED --kind test IMAGES --cuts 1 --expect-primary 2

@@ -76,11 +76,11 @@ $ replay WORKED --kind test IMAGES --rounds 2 --schedule 1.18
 $ trace WORKED --kind test IMAGES --rounds 2 --schedule 1.17,2.23
 ! mcsim: E53 CannotOccur at 1; exit 1
 $ sectors WORKED --kind test IMAGES --rounds 2 --end
-round 1; primary b0 a0 - *; secondary a0 - -; round 2; primary a1 a0 - *; secondary a0 - -
+round 1; primary b0 a0 - *; secondary a0 - -; round 2; primary b0 a0 - *; secondary a0 - -
 $ sectors WORKED --kind test IMAGES --rounds 2 --confirm --schedule 1.9 --end
-round 1; primary b0 a0 - *; secondary a0 - -; round 2; primary a0 a1 - a3; secondary a1 - -
+round 1; primary b0 a0 - *; secondary a0 - -; round 2; primary a0 a1 - a3; secondary b0 - -
 $ sectors WORKED --kind test IMAGES --rounds 2 --schedule 1.9,2.12
-round 1; primary a0 a0 - *; secondary b0 - -; round 2; primary a0 a0 - *; secondary a1 - -
+round 1; primary a0 a0 - *; secondary b0 - -; round 2; primary a0 a0 - *; secondary b0 - -
 $ trace WORKED --kind test IMAGES --rounds 2 --schedule 1.9,2.4 --from 3 --to 4
 round 1
 boot 0 test

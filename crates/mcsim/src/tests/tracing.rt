@@ -1,4 +1,4 @@
-//! `trace`, `sectors` and `picture` at the worked layout, and the flashes of starts. The operations are those that a model which shares no
+//! `trace`, `sectors`, `frames` and `picture` at the worked layout, and the flashes of starts. The operations are those that a model which shares no
 //! code with this repository prints.
 use super::support::{Table, all_play};
 
@@ -94,7 +94,7 @@ primary a0 a0 - *; secondary b0 - -
 $ sectors WORKED --kind test IMAGES --schedule 10
 primary - a0 - *; secondary b0 - -
 $ sectors WORKED --flash in --schedule 1 < MOVED
-primary - a0 - a3; secondary b0 - -
+primary - a1 - a3; secondary b0 - -
 $ sectors WORKED --kind test IMAGES --schedule 18
 ! mcsim: E53 CannotOccur at 0; exit 1
 $ replay WORKED --kind test IMAGES --schedule - --at-cut out
@@ -130,7 +130,7 @@ boot 1 revert
 114 write primary 992 copy-done 01ffffffffffffff
 result boot; type revert; ops 115; SWAPPED; next none
 $ sectors WORKED --kind revert IMAGES --grain unit --profile 2 --schedule 4 --end
-primary a1 a0 - *; secondary a0 - -
+primary b0 a0 - *; secondary a0 - -
 ";
 
 /// The flash of each kind of start. Images are placed without the bytes after them, and a flash as it is.
@@ -152,43 +152,104 @@ result none; type none; ops 0; primary none; secondary none; next none
 => 1792:0=zeros,441=first,521=zeros,962=second,1042=counted,1134=zeros,1575=plain
 ";
 
-/// Pages of the same boots: a row at a cut, the numbers and the outcome; one of units, half copied; one of a board, with runs of cells,
-/// worked out by hand; and of flashes of which nothing, or something else, is expected.
+/// Frames of the same boots: all of a swap that is cut twice, with what a cut at each operation comes to; those of some numbers; of units; of
+/// a board, whose sectors go on with one another; of a revert that is forgotten; and of flashes of which nothing, or something else, is
+/// expected. Sectors are worked out by hand.
+const FRAMES: &str = "\
+$ frames WORKED --kind test IMAGES --schedule 9.4
+mcsim 0.1.0
+layout WORKED
+rules --grain call --profile 1
+named SECOND
+other FIRST
+expect-primary a4f848b4db0bbed96a7c7fd25b79a0484fc03fbfc5a5efb662f200b2693923ee
+expect-secondary e3103e985884e987aaeb3091f107d4ad2ae5ff4720f4c43459c3d0ff3a12650d
+schedule 9.4
+boot\tnumber\tcut\toperation\tsector\tprimary\tsecondary\toutcome\tends
+boot 0 test 18
+0\t0\t-\terase primary 3\tprimary 3\ta0 -x3\tb0 - b2\tboot test 18 2.0.0+0/80 1.0.0+0/80 revert\tright
+0\t1\t-\twrite primary 984 swap-info 02ffffffffffffff\tprimary 3\ta0 -x3\tb0 - b2\tboot test 18 2.0.0+0/80 1.0.0+0/80 revert\tright
+0\t2\t-\twrite primary 976 swap-size 50000000ffffffff\tprimary 3\ta0 -x2 t\tb0 - b2\tboot test 18 2.0.0+0/80 1.0.0+0/80 revert\tright
+0\t3\t-\twrite primary 1008 magic MAGIC\tprimary 3\ta0 -x2 t\tb0 - b2\tboot test 18 2.0.0+0/80 1.0.0+0/80 revert\tright
+0\t4\t-\terase secondary 2\tsecondary 2\ta0 -x2 t\tb0 - b2\tboot test 18 2.0.0+0/80 1.0.0+0/80 revert\tright
+0\t5\t-\terase primary 1\tprimary 1\ta0 -x2 t\tb0 -x2\tboot test 14 2.0.0+0/80 1.0.0+0/80 revert\tright
+0\t6\t-\tcopy primary 0 to primary 256 length 128\tprimary 1\ta0 -x2 t\tb0 -x2\tboot test 14 2.0.0+0/80 1.0.0+0/80 revert\tright
+0\t7\t-\tcopy primary 128 to primary 384 length 128\tprimary 1\ta0x2 - t\tb0 -x2\tboot test 14 2.0.0+0/80 1.0.0+0/80 revert\tright
+0\t8\t-\twrite primary 880 entry 0 01ffffffffffffff\tprimary 3\ta0x2 - t\tb0 -x2\tboot test 14 2.0.0+0/80 1.0.0+0/80 revert\tright
+0\t9\tcut\terase primary 0\tprimary 0\ta0x2 - t\tb0 -x2\tboot test 9 2.0.0+0/80 1.0.0+0/80 revert\tright
+boot 1 test 9
+1\t0\t-\terase primary 0\tprimary 0\ta0x2 - t\tb0 -x2\tboot test 9 2.0.0+0/80 1.0.0+0/80 revert\tright
+1\t1\t-\tcopy secondary 0 to primary 0 length 128\tprimary 0\t- a0 - t\tb0 -x2\tboot test 9 2.0.0+0/80 1.0.0+0/80 revert\tright
+1\t2\t-\tcopy secondary 128 to primary 128 length 128\tprimary 0\tb0 a0 - t\tb0 -x2\tboot test 9 2.0.0+0/80 1.0.0+0/80 revert\tright
+1\t3\t-\twrite primary 912 entry 4 01ffffffffffffff\tprimary 3\tb0 a0 - t\tb0 -x2\tboot test 9 2.0.0+0/80 1.0.0+0/80 revert\tright
+1\t4\tcut\terase secondary 0\tsecondary 0\tb0 a0 - t\tb0 -x2\tboot test 5 2.0.0+0/80 1.0.0+0/80 revert\tright
+boot 2 test 5
+2\t0\t-\terase secondary 0\tsecondary 0\tb0 a0 - t\tb0 -x2\tboot test 5 2.0.0+0/80 1.0.0+0/80 revert\tright
+2\t1\t-\tcopy primary 256 to secondary 0 length 128\tsecondary 0\tb0 a0 - t\t-x3\tboot test 5 2.0.0+0/80 1.0.0+0/80 revert\tright
+2\t2\t-\tcopy primary 384 to secondary 128 length 128\tsecondary 0\tb0 a0 - t\ta0 -x2\tboot test 5 2.0.0+0/80 1.0.0+0/80 revert\tright
+2\t3\t-\twrite primary 920 entry 5 01ffffffffffffff\tprimary 3\tb0 a0 - t\ta0 -x2\tboot test 5 2.0.0+0/80 1.0.0+0/80 revert\tright
+2\t4\t-\twrite primary 992 copy-done 01ffffffffffffff\tprimary 3\tb0 a0 - t\ta0 -x2\tboot test 1 2.0.0+0/80 1.0.0+0/80 revert\tright
+result boot; type test; ops 5; SWAPPED; next revert
+ends right
+$ frames WORKED --kind test IMAGES --schedule 9.4 --from 9 --to 9
+...
+boot 0 test 18
+0\t9\tcut\terase primary 0\tprimary 0\ta0x2 - t\tb0 -x2\tboot test 9 2.0.0+0/80 1.0.0+0/80 revert\tright
+boot 1 test 9
+boot 2 test 5
+result boot; type test; ops 5; SWAPPED; next revert
+ends right
+$ frames WORKED --kind test IMAGES --grain unit --schedule 9 --to 9
+...
+0\t9\tcut\tcopy primary 16 to primary 272 length 8\tprimary 1\ta0 a0~ - t\tb0 -x2\t...
+ends right
+$ frames BOARD --kind test IMAGES --to 0
+...
+0\t0\t-\terase primary 117\tprimary 117\ta0 -x117\tb0 -x115 b116\t...
+ends right
+$ frames WORKED --kind revert IMAGES --grain unit --schedule 4 --to 0
+...
+result boot; type none; ops 0; KEPT; next none
+ends wrong
+$ frames WORKED --flash in < BEGUN,976=50000000,984=02,920=01,993=00
+...
+start ...
+result fault; type test; ops 0; primary none; secondary none; next test
+ends no-boot
+$ frames WORKED --kind test IMAGES --expect-secondary none --to 0
+...
+expect-secondary none
+schedule -...
+ends wrong
+$ frames WORKED --kind test IMAGES --schedule 9.9
+! mcsim: E53 CannotOccur at 1; exit 1
+$ frames WORKED --kind test IMAGES --expect-primary x
+! mcsim: E15 Syntax; exit 2
+";
+
+/// Pages of the same: what all schedules come to, a row at a cut, the numbers and the outcome; half a copy; a board; and what is refused.
 const PAGES: &str = "\
 $ picture WORKED --kind test IMAGES --schedule 9.4
-...<span class=\"r c\"><b>9</b><i class=\"a x\" style=\"flex:1\">a0</i><i class=\"a\" style=\"flex:1\">a0</i><i class=\"n\" style=\"flex:1\">-</i>\
+...<div class=\"r e c\"><b>9</b><i class=\"a x\" style=\"flex:1\">a0</i><i class=\"a\" style=\"flex:1\">a0</i><i class=\"n\" style=\"flex:1\">-</i>\
 <i class=\"t\" style=\"flex:1\">t</i><u></u><i class=\"b\" style=\"flex:1\">b0</i><i class=\"n\" style=\"flex:1\">-</i><i class=\"n\" style=\"flex:1\">-</i>\
-<span>erase primary 0</span><em class=\"y\">boot test 9 2.0.0+0/80 1.0.0+0/80 revert</em></span>
-</summary>
-</details>
-</section>
-<section><h2>boot 1 test, ops 9</h2>
-<details open><summary><span class=\"r\"><b>0</b>...<pre class=\"y\">result boot; type test; ops 5; SWAPPED; next revert
+<span>erase primary 0</span><em class=\"y\">boot test 9 2.0.0+0/80 1.0.0+0/80 revert</em></div>
+<h2>boot 1 test 9</h2>
+<div class=\"r s\"><b></b><i style=\"flex:4\">primary</i><u></u><i style=\"flex:3\">secondary</i></div>
+<div class=\"r e\"><b>0</b>...<pre class=\"y\">result boot; type test; ops 5; SWAPPED; next revert
 </pre>
-</section>
 </html>
 $ picture WORKED --kind test IMAGES
-...<h1>schedule -</h1>
-<pre class=\"y\">right 44166610515609
+...<pre class=\"y\">right 44166610515609
 first-not-right none
 schedules 44166610515609
 boot 44166610515609
 none 0...<pre class=\"y\">result boot; type test; ops 18; SWAPPED; next revert
 </pre>
-</section>
 </html>
 $ picture WORKED --kind test IMAGES --schedule 9.4 --from 9 --to 9
-...<h2>boot 0 test, ops 18</h2>
-<details open><summary><span class=\"r c\"><b>9</b><i class=\"a x\" style=\"flex:1\">a0</i><i class=\"a\" style=\"flex:1\">a0</i>\
-<i class=\"n\" style=\"flex:1\">-</i><i class=\"t\" style=\"flex:1\">t</i><u></u><i class=\"b\" style=\"flex:1\">b0</i>\
-<i class=\"n\" style=\"flex:1\">-</i><i class=\"n\" style=\"flex:1\">-</i>\
-<span>erase primary 0</span><em class=\"y\">boot test 9 2.0.0+0/80 1.0.0+0/80 revert</em></span>
-</summary>
-</details>
-</section>
-<section><h2>boot 1 test, ops 9</h2>
-</section>
-<section>...
+...expect-secondary e3103e985884e987aaeb3091f107d4ad2ae5ff4720f4c43459c3d0ff3a12650d
+schedule 9.4
+</pre>...
 </html>
 $ picture WIDE --kind test IMAGES --grain unit --verbose
 ! mcsim: E91 LargePicture; mcsim: give --from and --to, with at most 20000 operations between them; exit 2
@@ -197,60 +258,55 @@ $ picture WORKED --kind test IMAGES --schedule 9.9
 $ picture WORKED --kind test IMAGES --expect-primary x
 ! mcsim: E15 Syntax; exit 2
 $ picture WORKED --kind test IMAGES --grain unit --schedule 9
-...<span class=\"r c\"><b>9</b><i class=\"a\" style=\"flex:1\">a0</i><i class=\"a h x\" style=\"flex:1\">a0~</i><i class=\"n\" style=\"flex:1\">-</i>...
+...<div class=\"r c\"><b>9</b><i class=\"a\" style=\"flex:1\">a0</i><i class=\"a h x\" style=\"flex:1\">a0~</i><i class=\"n\" style=\"flex:1\">-</i>...
 </html>
-$ picture --sector 4096 --unit 4 --max-sectors 128 --chunk 1024 --primary 118 --secondary 117 --kind test IMAGES
-...<details><summary><span class=\"r\"><b>0</b><i class=\"a\" style=\"flex:1\">a0</i><i class=\"n\" style=\"flex:116\">-&times;116</i>\
-<i class=\"n x\" style=\"flex:1\">-</i><u></u><i class=\"b\" style=\"flex:1\">b0</i><i class=\"n\" style=\"flex:115\">-&times;115</i>\
+$ picture BOARD --kind test IMAGES
+...<div class=\"r e\"><b>0</b><i class=\"a\" style=\"flex:1\">a0</i><i class=\"n\" style=\"flex:116\">-x116</i>\
+<i class=\"n x\" style=\"flex:1\">-</i><u></u><i class=\"b\" style=\"flex:1\">b0</i><i class=\"n\" style=\"flex:115\">-x115</i>\
 <i class=\"b\" style=\"flex:1\">b116</i><span>erase primary 117</span>...
 </html>
 $ picture WORKED --flash in < BEGUN,976=50000000,984=02,920=01,993=00
-...<pre class=\"z\">right 0
+...<pre class=\"u\">right 0
 first-not-right -
 schedules 1
 boot 0
 none 0
 panic 0
-fault 1...<section><h2>boot 0 test, ops 0</h2>
-</section>
-<section><h2>outcome</h2>
+fault 1...<h2>boot 0 test 0</h2>
+<div class=\"r s\"><b></b><i style=\"flex:4\">primary</i><u></u><i style=\"flex:3\">secondary</i></div>
+<h2>outcome</h2>
 <pre class=\"z\">result fault; type test; ops 0; primary none; secondary none; next test
 </pre>
-</section>
 </html>
 $ picture WORKED --kind revert IMAGES --grain unit --schedule 4
-...<h1>schedule 4</h1>
-<pre class=\"z\">right 801533844734458121087621385
+...<pre class=\"u\">right 801533844734458121087621385
 first-not-right 0.0.0.0.0.0.0.0.0.0.0.0.0.0.0.4
 schedules 801533844734458122519277150
 boot 801533844734458122519277150
-none 0...<pre class=\"z\">result boot; type none; ops 0; KEPT; next none
+none 0...<pre class=\"w\">result boot; type none; ops 0; KEPT; next none
 </pre>
-</section>
 </html>
 $ picture WORKED --kind revert IMAGES --grain unit --profile 2 --schedule 4
 ...<pre class=\"y\">right 825245368244644748302168377
 first-not-right none...<pre class=\"y\">result boot; type revert; ops 115; SWAPPED; next none
 </pre>
-</section>
 </html>
 $ picture WORKED --kind test IMAGES --expect-secondary none
-...<pre class=\"z\">right 0
-first-not-right -...<pre class=\"z\">result boot; type test; ops 18; SWAPPED; next revert
+...<pre class=\"u\">right 0
+first-not-right -...<pre class=\"w\">result boot; type test; ops 18; SWAPPED; next revert
 </pre>
-</section>
 </html>
 $ picture WORKED --kind test IMAGES --expect-primary 1.0.0+0
-...<pre class=\"z\">right 0
-first-not-right -...<pre class=\"z\">result boot; type test; ops 18; SWAPPED; next revert
+...<pre class=\"u\">right 0
+first-not-right -...<pre class=\"w\">result boot; type test; ops 18; SWAPPED; next revert
 </pre>
-</section>
 </html>
 ";
 
-static TABLES: [Table; 4] = [
+static TABLES: [Table; 5] = [
     (TRACES, &[], "-"),
     (UNITS, &[], "-"),
+    (FRAMES, &[], "-"),
     (PAGES, &[], "-"),
     (STARTS, &[], "-"),
 ];

@@ -1,18 +1,18 @@
 use Rattle.std.specs.{Prelude.{Err, List, MatchResult, Ok, OnErr, OnOk, Option, Result, ℕ}, Result.{IsErrAnd}}
 use Rattle.std.proofs.{Common.{◌≡◌, ◌≤◌, ◌⊎◌, inl, inr, refl}, lemmas.Result.{err_from_is_err_and}}
 use Rattle.mc_actions.specs.declared.schedule.Scheduled.{Scheduled}
+use Rattle.mc_cli.specs.declared.command.TheConstants.{VERSION}
 use Rattle.mc_command.specs.Pictures.{AnswersPicture, HasRows}
 use Rattle.mc_command.proofs.picture.answer.Goals as goal
 use Rattle.mc_options.specs.Requests.{End}
 use Rattle.mc_options.specs.declared.refusal.Refusal.TheVariants as refusals
-use Rattle.mc_start.specs.Start.{begun}
 use Rattle.mc_trace.specs.{Picture.{BeginsPicture, Draws}, declared.error.TraceError.{TraceError}, declared.trace.Span.{Span}}
 use Rattle.mc_verdict.specs.{Verdicts.{expected_ends}, declared.verdict.Ends.{Ends}}
 
 -- A page that is drawn, or not, where an error is made of another.
 drawn : (s : Scheduled) (ends : Ends) (span : Span) (old new : Option (List ℕ)) (r : Result (Unit {0}) TraceError) (m : End) → HasRows s span (λ n. n ≤ 20000)
-    → OnOk r (Draws (expected_ends ends s.start.named) span (begun s.start) s.schedule old new)
-    → OnErr r ((new ≡ old) ⊎ BeginsPicture (expected_ends ends s.start.named) span (begun s.start) s.schedule old new)
+    → OnOk r (Draws VERSION.now (expected_ends ends s.start.named) span s.start s.schedule old new)
+    → OnErr r ((new ≡ old) ⊎ BeginsPicture VERSION.now (expected_ends ends s.start.named) span s.start s.schedule old new)
     → MatchResult r (λ x. m ≡ Ok x) (λ e. IsErrAnd m (λ d. d ≡ refusals.Trace e)) → AnswersPicture s ends span old new m
 drawn s ends span old new (Ok done) m few whole part made = inl (record { text = whole.0; is = whole.1; few = few }, made, whole.2)
 drawn s ends span old new (Err e) m few whole (inl same) made =

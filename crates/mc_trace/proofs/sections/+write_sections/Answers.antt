@@ -6,7 +6,7 @@ use Rattle.mc_explore.specs.{Schedules.{CanOccur}, facts.Children.{listed_there}
 use Rattle.mc_explore.specs.Boots.{at_cut}
 use Rattle.mc_output.specs.Text.{AppendsPrefix}
 use Rattle.mc_start.specs.Start.{begun}
-use Rattle.mc_trace.specs.{Picture.{boot_section, end_text, sections_text}, inner.Boots.{WritesText}, inner.Rows.{IsReady, model_of}}
+use Rattle.mc_trace.specs.{Frames.{boot_section, end_text, sections_text}, inner.Boots.{WritesText}, inner.Walking.{IsReady, model_of}}
 use Rattle.mc_trace.proofs.{Headed.{child_boot, first_occurs, last_is, next_is, outcome_here}, Writing.{first_begun, then_begun, writes_then}}
 use Rattle.mc_trace.proofs.sections.+write_sections.Goals as goal
 
@@ -20,7 +20,7 @@ returns-in_err-write_section-clause-written g t c =
     let failed = err_from_is_err_and c.from_residual.result c.from_residual.ensures.1 in
     rw failed.1 (subst (λ (t : List ℕ). AppendsPrefix (g.W.Write.contents c.args.writer.now) (g.W.Write.contents c.write_section.new.writer) t)
     (sym (last_is look start c.args.boot x o (outcome_here _ _ _ c.requires.ready.start_is c.summary.ensures) c.args.cuts.now none))
-    (first_begun _ _ (boot_section look start c.args.boot x None) (end_text look.expectation o) c.in_err-write_section.ensures.written))
+    (first_begun _ _ (boot_section look start c.args.boot x None) (end_text look.form look.expectation o) c.in_err-write_section.ensures.written))
 
 pub returns-in_err-write_line-clause-written : goal.returns-in_err-write_line-clause-written
 returns-in_err-write_line-clause-written g t c =
@@ -32,7 +32,7 @@ returns-in_err-write_line-clause-written g t c =
     let failed = err_from_is_err_and c.from_residual-in_err-write_line.result c.from_residual-in_err-write_line.ensures.1 in
     rw failed.1 (subst (λ (t : List ℕ). AppendsPrefix (g.W.Write.contents c.args.writer.now) (g.W.Write.contents c.write_line.new.writer) t)
     (sym (last_is look start c.args.boot x o (outcome_here _ _ _ c.requires.ready.start_is c.summary.ensures) c.args.cuts.now none))
-    (then_begun _ _ _ (boot_section look start c.args.boot x None) (end_text look.expectation o) c.in_ok-write_section.ensures.written
+    (then_begun _ _ _ (boot_section look start c.args.boot x None) (end_text look.form look.expectation o) c.in_ok-write_section.ensures.written
     (rw c.end_line.ensures at c.in_err-write_line.ensures.prefix)))
 
 pub returns-in_default-clause-written : goal.returns-in_default-clause-written
@@ -44,7 +44,7 @@ returns-in_default-clause-written g t c =
     let none = nil_from_length c.args.cuts.now c.in_default.ensures.cases in
     subst (λ (t : List ℕ). Appends (g.W.Write.contents c.args.writer.now) (g.W.Write.contents c.write_line.new.writer) t)
     (sym (last_is look start c.args.boot x o (outcome_here _ _ _ c.requires.ready.start_is c.summary.ensures) c.args.cuts.now none))
-    (Appends-trans _ _ _ (boot_section look start c.args.boot x None) (end_text look.expectation o) c.in_ok-write_section.ensures.written
+    (Appends-trans _ _ _ (boot_section look start c.args.boot x None) (end_text look.form look.expectation o) c.in_ok-write_section.ensures.written
     (rw c.end_line.ensures at c.in_ok-write_line.ensures.whole))
 
 pub returns-in_err-write_section-2-clause-written : goal.returns-in_err-write_section-2-clause-written

@@ -1,6 +1,6 @@
 use Rattle.std.proofs.Common.{◌<◌, false, true, arith, ap, option_map, string_bytes, ◌∙◌, ◌++◌}
 use Rattle.mc_flash.specs.{Flash.{sectors_of}, facts.Layouts.{trailer_leaves_one}}
-use Rattle.mc_trace.specs.{Picture.{run_of}, declared.runs.Run.{Run}}
+use Rattle.mc_trace.specs.{Runs.{run_of}, declared.runs.Run.{Run}}
 use Rattle.mc_trace.proofs.{RunWords.{begun, grew}, SlotCells.{next_count}}
 use Rattle.mc_trace.proofs.slot_words.push_words.Goals as goal
 

@@ -9,6 +9,9 @@ returns-in-Sectors g c = rw c.in-Sectors.is c.answer_sectors.ensures
 pub returns-in-CampaignShown : goal.returns-in-CampaignShown
 returns-in-CampaignShown g c = rw c.in-CampaignShown.is c.show.ensures
 
+pub returns-in-Frames : goal.returns-in-Frames
+returns-in-Frames g c = rw c.in-Frames.is c.answer_frames.ensures
+
 pub returns-in-Picture : goal.returns-in-Picture
 returns-in-Picture g c = rw c.in-Picture.is c.answer-in-Picture.ensures
 

@@ -1,0 +1,20 @@
+use Rattle.std.proofs.Common.{append_assoc}
+use Rattle.mc_trace.specs.Frames.{board_text, sizes_text}
+use Rattle.mc_trace.proofs.header.board_line.Goals as goal
+
+pub returns : goal.returns
+unfolding board_text sizes_text
+returns c =
+    rw (
+      c.put_rules.ensures.text,
+      c.rules.ensures,
+      c.put_slots.ensures.text,
+      c.layout-2.ensures.value,
+      c.put_sizes.ensures.text,
+      c.layout.ensures.value,
+      c.put-3.ensures.text,
+      c.put-2.ensures.text,
+      c.put.ensures.text,
+      c.new-line.ensures,
+    )
+    (simp append_assoc)
