@@ -1,7 +1,7 @@
 -- The operation at which a boot is on its way, and the frames of a boot.
-use Rattle.std.specs.Prelude.{◌≡◌, ℕ, suc, ◌+◌, ◌<◌, ◌≤◌, ◌||◌, Bool, true, false, if◌then◌else◌, IfSome, List, [], ◌∷◌, ◌++◌, length, refl, take, drop, get_or, slice_get, Option, Some, None}
+use Rattle.std.specs.Prelude.{◌≡◌, ℕ, suc, ◌+◌, ◌<◌, ◌≤◌, Bool, true, false, if◌then◌else◌, IfSome, List, [], ◌∷◌, ◌++◌, length, refl, take, drop, get_or, slice_get, Option, Some, None}
 use Rattle.std.specs.Io.KnownBytes.{Appends}
-use Rattle.std.proofs.{Common.{arith, sym, ap, subst, append-nil, ◌∙◌}, Math.ListN.{drop_of_length-le}, Math.Nat.{min-le_left}}
+use Rattle.std.proofs.{Common.{arith, sym, ap, subst, ◌∙◌}, Math.ListN.{drop_of_length-le}, Math.Nat.{min-le_left}}
 use Rattle.std.proofs.{Math.Seq.{drop-cons, get_or-append_seam}, lemmas.List.{get_or-take, length-append, length-take, length-take-le, same_from_push}}
 use Rattle.std.proofs.lemmas.Option.{get_or_from_slice_get, slice_get-get_or}
 use Rattle.mc_boot.specs.{Boot.{HasCome, Progress}, Outcome.{Report, first_then, happening, ops_of, outcome_of, shown}, Plan.{PowerOn, again, plan}}

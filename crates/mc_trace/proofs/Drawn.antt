@@ -1,9 +1,8 @@
 -- A page that is drawn.
 use Rattle.std.specs.Prelude.{Err, IfErr, List, Ok, OnErr, OnOk, Option, Result, ℕ, ◌≡◌, ◌⊎◌}
 use Rattle.std.proofs.Common.{ap, inr, refl}
-use Rattle.mc_boot.specs.{Outcome.{Report}, Plan.{PowerOn}}
+use Rattle.mc_boot.specs.{Plan.{PowerOn}}
 use Rattle.mc_explore.specs.{Schedules.{CanOccur}, declared.expectation.Expectation.{Expectation}}
-use Rattle.mc_flash.specs.Flash.{Content}
 use Rattle.mc_start.specs.Start.{Started, begun}
 use Rattle.mc_trace.specs.{Picture.{BeginsPicture, Draws, IsPicture, IsVerdict, page_by, page_look}, Sectors.{RefusesPicture}, Trace.{RefusesTrace}}
 use Rattle.mc_trace.specs.declared.error.TraceError.{TraceError}

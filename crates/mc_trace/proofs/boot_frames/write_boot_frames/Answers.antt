@@ -1,5 +1,5 @@
 use Rattle.std.specs.Prelude.{◌≡◌, ◌+◌, IfSome, ◌∷◌, [], ℕ, length, suc, refl, None, Option, Some}
-use Rattle.std.proofs.{Common.{arith, ap, subst, sym, ◌∙◌}, lemmas.Result.{err_from_is_err_and}, lemmas.List.{length-append}}
+use Rattle.std.proofs.{Common.{arith, ap, subst, ◌∙◌}, lemmas.Result.{err_from_is_err_and}, lemmas.List.{length-append}}
 use Rattle.mc_boot.specs.{Outcome.{ops_of}, Plan.{PowerOn}}
 use Rattle.mc_explore.specs.{facts.Children.{HasCome, IsAtChild, can_pass, come_on, reached, width_here}, facts.Occurring.{landed_again}}
 use Rattle.mc_explore.specs.{declared.one_round.OneRound.{OneRound}, inner.LastCuts.{boot_at}, inner.OneRound.{begins}}

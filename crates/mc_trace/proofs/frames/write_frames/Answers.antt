@@ -1,6 +1,6 @@
 use Rattle.std.proofs.{Common.{sym, ◌∙◌}, lemmas.{Bool.{false≢true}, Result.{err_from_is_err_and}}}
 use Rattle.mc_start.specs.Start.{begun}
-use Rattle.mc_trace.proofs.Drawn.{occurs, refused, refused_walk}
+use Rattle.mc_trace.proofs.Drawn.{refused, refused_walk}
 use Rattle.mc_trace.proofs.frames.write_frames.Goals as goal
 
 pub returns-in_err-walk-clause-refused : goal.returns-in_err-walk-clause-refused

@@ -1,4 +1,3 @@
-use Rattle.std.specs.Prelude.{List, ℕ, ◌++◌}
 use Rattle.std.proofs.lemmas.Result.{err_from_is_err_and}
 use Rattle.mc_trace.specs.Frames.{board_text, expectation_text, images_text, schedule_line}
 use Rattle.mc_trace.proofs.Writing.{first_begun, then_begun, written, writes_then}

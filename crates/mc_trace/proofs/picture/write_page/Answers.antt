@@ -1,4 +1,3 @@
-use Rattle.std.specs.Prelude.{List, ℕ, ◌++◌}
 use Rattle.std.proofs.lemmas.Result.{err_from_is_err_and}
 use Rattle.mc_start.specs.Start.{begun}
 use Rattle.mc_trace.specs.{Frames.{header_text, sections_text}, Picture.{opening_text}, declared.page.TheConstants.{LEGEND}}

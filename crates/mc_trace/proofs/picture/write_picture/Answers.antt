@@ -2,7 +2,7 @@ use Rattle.std.proofs.{Common.{ap, sym, ◌∙◌}, lemmas.{Bool.{false≢true},
 use Rattle.mc_flash.specs.Geometry.{Geometry}
 use Rattle.mc_start.specs.Start.{begun}
 use Rattle.mc_trace.specs.Picture.{page_look}
-use Rattle.mc_trace.proofs.Drawn.{begins, drawn, occurs, refused, refused_walk}
+use Rattle.mc_trace.proofs.Drawn.{begins, drawn, refused, refused_walk}
 use Rattle.mc_trace.proofs.picture.write_picture.Goals as goal
 
 pub returns-in_err-walk-clause-refused : goal.returns-in_err-walk-clause-refused
