@@ -17,16 +17,19 @@ function life_line(words) {
   return ["The dump, of files a and b and a script", ["./mcsim", ...named.map(quoted)].join(" ")];
 }
 
-// Each with a title. A picture of two images takes what is right from their kind, and has no --all-right.
+// What is expected in the slots. Frames and a picture of two images take it from their kind, and have no --all-right.
+export const in_slots = expected => expected.filter(([option]) => option.startsWith("--expect-"));
+
+// Each with a title.
 export function command_lines(setup, cuts) {
   const { numbers, source, rules, expected, bound, names } = setup, start = [...numbers, ...source, ...rules];
-  const at = [["--schedule", schedule_text(cuts)]], slots_expected = expected.filter(([option]) => option.startsWith("--expect-"));
+  const at = [["--schedule", schedule_text(cuts)]];
   const lines = [
     ["What all come to", "census", [["--cuts", bound], ...expected]],
     ["Each operation", "trace", at],
     ["The sectors then", "sectors", [...at, ["--words", "all"]]],
     ["The outcome, and the flash at the cut", "replay", [...at, ["--at-cut", "cut.flash"]]],
-    ["A page to send", "picture", [...at, ...slots_expected]],
+    ["A page to send", "picture", [...at, ...in_slots(expected)]],
   ];
   if (setup.tears) lines.push(["Power lost within an operation of the next boot", "tears", [...at, ["--erase", setup.tears], ...expected]]);
   const said = lines.map(([title, command, more]) => [title, command_line(command, [...start, ...more], names)]);

@@ -3,13 +3,17 @@
 
 export const by_id = id => document.getElementById(id);
 
-// An element with attributes and children; a text child is a text.
-export function made(name, attributes = {}, ...children) {
-  const element = document.createElement(name);
+function filled(element, attributes, children) {
   for (const [key, value] of Object.entries(attributes)) if (value !== undefined) element.setAttribute(key, value);
   element.append(...children);
   return element;
 }
+
+// An element with attributes and children; a text child is a text.
+export const made = (name, attributes = {}, ...children) => filled(document.createElement(name), attributes, children);
+
+// The same, of a drawing.
+export const drawn = (name, attributes = {}, ...children) => filled(document.createElementNS("http://www.w3.org/2000/svg", name), attributes, children);
 
 // Runs `work` for the last of many calls: while it works, later calls become one.
 export function latest(work) {

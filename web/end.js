@@ -4,7 +4,7 @@ import { command_lines } from "./commands.js";
 import { by_id, copied, made } from "./dom.js";
 import { fields_of, lines_of, schedule_text } from "./texts.js";
 
-const BADGES = { right: "✓ the right image", wrong: "≠ not as expected", bad: "✗ no boot", mixed: "" };
+const BADGES = { right: "✓ the right image", wrong: "≠ not as expected", bad: "✗ no boot" };
 const WIDTH = 16, MOST_LINES = 512;
 
 export function show_outcome(cuts, text, kind, expected) {

@@ -1,13 +1,12 @@
 "use strict";
 // What the program says of one start: each question is asked once, and its answer kept.
+import { in_slots } from "./commands.js";
 import { Lost, Refused, bytes_of, flash, run, run_judged } from "./program.js";
 import { torn_of } from "./tears.js";
-import { cuts_of, fields_of, kind_of, last_operations, rows_of, schedule_text, slots_of } from "./texts.js";
+import { fields_of, frames_of, kind_of, schedule_text, slots_of } from "./texts.js";
 
-const KEPT = 3000; // answers
+const KEPT = 300; // answers, of which frames may have a megabyte
 const is_count = number => Number.isInteger(number) && number >= 0 && number < 2 ** 32;
-const ROWS = 1 << 19; // the most that one survey counts
-const SPLITS = 40; // surveys by which a boot's end is found more closely
 
 // The option with its value as words of a command line.
 function words_of([option, value]) {
@@ -71,10 +70,9 @@ export class Facts {
     return this.of_start("replay", [["--schedule", schedule_text(cuts)]]);
   }
 
-  // The words of the sectors.
-  async sectors(cuts, end, signal) {
-    const more = [["--schedule", schedule_text(cuts)], ["--words", "all"], ...(end ? [["--end"]] : [])];
-    return slots_of(await this.of_start("sectors", more, signal));
+  // The words of the sectors at the end.
+  async sectors(cuts) {
+    return slots_of(await this.of_start("sectors", [["--schedule", schedule_text(cuts)], ["--words", "all"], ["--end"]]));
   }
 
   // The versions of two images that fit, by a boot that leaves them where they are.
@@ -86,50 +84,30 @@ export class Facts {
     return { a: primary.split(" ")[0], b: secondary.split(" ")[0] };
   }
 
-  // The operations of the boot after the cuts, from one number up to another.
-  async operations(cuts, from, to, signal) {
-    const more = [["--schedule", schedule_text(cuts)], ["--from", String(from)], ["--to", String(to - 1)]];
-    return last_operations(await this.of_start("trace", more, signal), this.sector_bytes);
+  // What frames and a picture are asked by: a schedule, the first and the last of each boot's operations, and what is expected.
+  framed(command, cuts, first, last, signal) {
+    const span = [["--schedule", schedule_text(cuts)], ["--from", String(first)], ["--to", String(last)]];
+    return this.of_start(command, [...span, ...in_slots(this.setup.expected)], signal);
   }
 
-  // The schedules with one more cut, from one number up to another: a schedule of as many cuts as are allowed has none below it.
-  range(cuts, from, to) {
-    const after = from ? [...cuts, from - 1] : cuts;
-    return [["--cuts", String(cuts.length + 1)], ["--after", schedule_text(after)], ["--until", schedule_text([...cuts, to])]];
+  // The frames of the boot after the cuts, from one number up to another.
+  async frames(cuts, from, to, signal) {
+    return frames_of(await this.framed("frames", cuts, from, to - 1, signal), this.sector_bytes);
   }
 
-  async rows(cuts, from, to, signal) {
-    return rows_of(await this.of_start("explore", [...this.range(cuts, from, to), ["--limit", String(to - from)]], signal));
+  // A page of the boots of a schedule, with all their operations.
+  async picture(cuts) {
+    const outcomes = await Promise.all([...cuts, null].map((_, i) => this.outcome(cuts.slice(0, i))));
+    const most = Math.max(1, ...outcomes.map(text => Number(fields_of(text).ops)));
+    return this.framed("picture", cuts, 0, most - 1, this.ending.signal);
   }
 
-  // The counts of such a range, which is never as long as its limit, so that all of it is counted.
-  async survey(cuts, from, to, signal) {
-    const limit = [["--limit", String(to - from + 1)]];
-    return fields_of(await this.of_start("survey", [...this.range(cuts, from, to), ...limit, ...this.setup.expected], signal));
-  }
-
-  // Whether the schedule ends as expected: a kind as `kind_of` says it.
+  // Whether the schedule ends as expected: a kind as `kind_of` says it. A schedule of as many cuts as are allowed has none below it.
   async kind(cuts) {
-    if (cuts.length) return kind_of(await this.survey(cuts.slice(0, -1), cuts.at(-1), cuts.at(-1) + 1));
-    return kind_of(fields_of(await this.of_start("survey", [["--cuts", "0"], ["--limit", "2"], ...this.setup.expected])));
-  }
-
-  // What one more cut comes to, in segments of numbers: [from, to, kind].
-  async segments(cuts, from, to, signal) {
-    const open = [], found = [];
-    for (let low = from; low < to; low += ROWS) open.push([low, Math.min(to, low + ROWS)]);
-    for (let splits = SPLITS; open.length; splits--) {
-      const [low, high] = open.pop(), counts = await this.survey(cuts, low, high, signal), kind = kind_of(counts);
-      if (kind !== "mixed" || splits <= 0 || high - low === 1) {
-        if (found.at(-1)?.[2] === kind) found.at(-1)[1] = high;
-        else found.push([low, high, kind]);
-        continue;
-      }
-      const first = cuts_of(counts["first-not-right"] ?? "none").at(-1);
-      const middle = first > low && first < high ? first : Math.ceil((low + high) / 2);
-      open.push([middle, high], [low, middle]);
-    }
-    return found;
+    const before = cuts.slice(0, -1), last = cuts.at(-1), after = last ? [...before, last - 1] : before;
+    const alone = cuts.length ? [["--after", schedule_text(after)], ["--until", schedule_text([...before, last + 1])]] : [];
+    const rows = [["--cuts", String(cuts.length)], ...alone, ["--limit", "2"]];
+    return kind_of(fields_of(await this.of_start("survey", [...rows, ...this.setup.expected])));
   }
 
   // Uses the flash that a schedule leaves, by its digest: once more where the server has dropped it.

@@ -6,7 +6,7 @@ export class Lost extends Error {}
 
 const LIMIT = 2 ** 28; // bytes of all that is kept
 const SHORT_COUNT = 2 ** 12; // rows that are counted soon
-const LONG = ["census", "inspect", "locate", "life", "tears"]; // commands that may take long
+const LONG = ["census", "inspect", "locate", "life", "tears", "picture"]; // commands that may take long
 const files = new Map(); // what is kept, by a name, that which was used last at the end
 let held = [], named = 0;
 

@@ -6,6 +6,7 @@ import { show_bytes, show_commands, show_outcome, show_refusal, show_trailers } 
 import { Facts } from "./facts.js";
 import { begin_form, is_to_make, link_of, make_all, mark_fields, marked_question, setup, take_link, times, wanted_texts } from "./form.js";
 import { strange_text } from "./link.js";
+import { stripes } from "./map.js";
 import { Refused, bytes_of, run } from "./program.js";
 import { fields_of_refusal } from "./refusals.js";
 import { show_scenes } from "./scenes.js";
@@ -48,6 +49,18 @@ function save(bytes, name) {
   setTimeout(() => URL.revokeObjectURL(address), SAVED);
 }
 
+// Saves what all power-ons show as a page that takes no program.
+async function save_page() {
+  const { facts, cuts } = state, button = by_id("save-page"), name = button.textContent;
+  button.textContent = "Asking the program …";
+  try {
+    save(await facts.picture(cuts), "swap.html");
+  } catch (error) {
+    await failed(error);
+  }
+  button.textContent = name;
+}
+
 function go(cuts) {
   state.cuts = cuts;
   show();
@@ -87,11 +100,9 @@ function mark_old(is_old) {
 
 // What the power-on after `before` shows, cut at a number or left alone.
 async function of_boot(facts, before, cut, index) {
-  const upto = cut === null ? before : [...before, cut];
-  const [outcome, slots, operation] = await Promise.all([
-    facts.outcome(before), facts.sectors(upto, cut === null),
-    cut === null ? null : cards[index]?.known_operation(facts, before, cut) ?? facts.operations(before, cut, cut + 1).then(found => found[0])]);
-  return { outcome: fields_of(outcome), slots, operation };
+  const frame_at = () => cards[index]?.known_frame(facts, before, cut) ?? facts.frames(before, cut, cut + 1).then(found => found[0]);
+  const [outcome, frame, slots] = await Promise.all([facts.outcome(before), ...(cut === null ? [null, facts.sectors(before)] : [frame_at()])]);
+  return { outcome: fields_of(outcome), frame, slots: slots ?? frame?.words };
 }
 
 function place_cards(count) {
@@ -118,7 +129,10 @@ const show = latest(async () => {
     const trailers_asked = facts.trailers(cuts), boots = [...cuts, null].map((cut, i) => of_boot(facts, cuts.slice(0, i), cut, i));
     const [trailers, outcome, kind, ...reports] = await Promise.all([trailers_asked, facts.outcome(cuts), facts.kind(cuts), ...boots]);
     if (facts !== state.facts) return;
-    if (!state.is_uncounted) by_id("refusal").hidden = true;
+    if (!state.is_uncounted) {
+      by_id("refusal").hidden = true;
+      by_id("program").hidden = false;
+    }
     by_id("shown").hidden = false;
     mark_old(false);
     show_legend(facts.setup);
@@ -281,15 +295,11 @@ async function copy_link() {
   by_id("linked").textContent = (await copied(location.href)) ? "Copied." : "The address line has it.";
 }
 
-function redraw() {
-  cards.slice(0, by_id("boots").children.length).forEach(card => card.draw());
-}
-
 // Draws anew where the page is made wider or narrower.
 function follow_width() {
   let wide = 0;
   new ResizeObserver(([{ contentRect }]) => {
-    if (contentRect.width !== wide) redraw();
+    if (contentRect.width !== wide) cards.slice(0, by_id("boots").children.length).forEach(card => card.draw());
     wide = contentRect.width;
   }).observe(by_id("boots"));
 }
@@ -300,12 +310,13 @@ async function begin() {
     if (state.facts) show_layout();
   }, failed });
   show_scenes();
+  document.body.append(stripes());
   by_id("link").addEventListener("click", copy_link);
+  by_id("save-page").addEventListener("click", save_page);
   by_id("inspect-box").addEventListener("toggle", () => state.facts && fill_soon(0));
   addEventListener("hashchange", follow_hash);
   addEventListener("keydown", event => event.key === "Escape" && hide_tip());
   follow_width();
-  matchMedia("(prefers-color-scheme: dark)").addEventListener("change", redraw);
   await follow(location.hash);
   await show_version().catch(failed);
 }

@@ -1,234 +1,171 @@
 "use strict";
 // Draws a boot as a map: operations from left to right, sectors from top to bottom, and above them what a power cut there comes to.
+import { drawn } from "./dom.js";
+import { map_text } from "./sentences.js";
 import { class_of } from "./texts.js";
 
 const ENDS = 13, OPERATIONS = 15, GAP = 4, LETTERS = { erase: "E", copy: "C", write: "W" };
-const LEAST = 5; // pixels
-const MARKS = { right: "✓", wrong: "≠", bad: "✗", busy: "⚠", mixed: "?" };
+const LEAST = 5, LETTER = 7, WORD = 60; // pixels: of what is not right, of a letter, and of the place of a word
+const MARKS = { right: "✓", wrong: "≠", bad: "✗", busy: "⚠" };
+const STRIPED = ["a", "b", "trailer", "other", "wrong", "bad", "busy"];
+const SLOTS = ["primary", "secondary"];
+
+const px = number => Math.round(number * 100) / 100;
+const box = (kind, x, y, width, height) => drawn("rect", { class: kind, x: px(x), y: px(y), width: px(width), height: px(height) });
+const said = (kind, x, y, text) => drawn("text", { class: kind, x: px(x), y: px(y) }, text);
+
+const room_of = text => LETTER * text.length + 4;
+
+// A box, with a text in it where it has room: in its middle, or in that of its beginning.
+function told_box(kind, x, y, width, height, text, place = width) {
+  const has_room = text && width >= room_of(text) && height > 9;
+  return [box(kind, x, y, width, height), ...(has_room ? [said(kind, x + Math.min(width, place) / 2, y + height / 2, text)] : [])];
+}
+
+// The stripes of all maps, by the names of their colours.
+export function stripes() {
+  const striped = name => drawn("pattern", { id: `${name}-stripes`, width: 6, height: 6, patternUnits: "userSpaceOnUse" },
+    drawn("rect", { width: 6, height: 6, fill: `var(--${name})` }),
+    drawn("path", { d: "M-1 1 1-1M0 6 6 0M5 7 7 5", stroke: `var(--${name}-line)`, "stroke-width": 1.6 }));
+  return drawn("svg", { class: "stripes", width: 0, height: 0, "aria-hidden": "true" }, ...STRIPED.map(striped));
+}
 
 // The height of a sector, by how many there are in both slots.
 const height_of = sectors => (sectors <= 16 ? 17 : sectors <= 48 ? Math.max(5, 240 / sectors) : 240 / sectors);
 
-// Where things are on a canvas; its left margin, which has the names, is the style's.
-export function places(canvas, boot) {
-  const { primary, secondary } = boot, high = height_of(primary + secondary);
-  const margin = parseFloat(getComputedStyle(canvas).getPropertyValue("--margin"));
-  const torn = boot.shows_tears ? ENDS + GAP : 0;
+// Where things are on a map so many pixels wide, with its margin, which has the names. `x` is of an operation, counted from the view's first.
+function places(wide, margin, { view, primary, secondary, shows_tears }) {
+  const high = height_of(primary + secondary), torn = shows_tears ? ENDS + GAP : 0, column = (wide - margin) / (view.to - view.from);
   const top = { ends: 0, tears: torn, operations: torn + ENDS + GAP, primary: torn + ENDS + OPERATIONS + 2 * GAP };
   top.secondary = top.primary + primary * high + GAP;
-  const wide = canvas.clientWidth - margin, count = Math.max(1, boot.view.to - boot.view.from), { from } = boot.view;
-  const ratio = devicePixelRatio, left = margin * ratio, step = (wide * ratio) / count;
-  return {
-    margin, high, top, wide, column: wide / count, height: top.secondary + secondary * high + 1,
-    x: number => Math.round(left + (number - from) * step) / ratio,
-    number: x => Math.floor(from + ((x - margin) * count) / wide),
-  };
+  return { wide, margin, high, top, column, height: top.secondary + secondary * high + 1, x: i => margin + i * column };
 }
 
-function colours() {
-  const style = getComputedStyle(document.documentElement), kept = new Map();
-  return name => {
-    if (!kept.has(name)) kept.set(name, style.getPropertyValue(`--${name}`).trim());
-    return kept.get(name);
-  };
+// The runs of items that have the same value: from, to, and the value.
+function runs_of(items, value_of) {
+  const runs = [];
+  items.forEach((item, i) => {
+    const value = value_of(item), last = runs.at(-1);
+    if (last?.value === value) last.to = i + 1;
+    else runs.push({ from: i, to: i + 1, value });
+  });
+  return runs;
 }
 
-// A pattern of stripes over a colour.
-function striped(context, under, over) {
-  const tile = Object.assign(document.createElement("canvas"), { width: 6, height: 6 }), pen = tile.getContext("2d");
-  pen.fillStyle = under;
-  pen.fillRect(0, 0, 6, 6);
-  pen.strokeStyle = over;
-  pen.lineWidth = 1.6;
-  pen.beginPath();
-  for (const shift of [-6, 0, 6]) {
-    pen.moveTo(shift, 6);
-    pen.lineTo(shift + 6, 0);
+// A boot has a name, a type, a count of operations and a view of them; of these, once they are known, frames (`frames_of`) and what tears in them
+// come to, by number; how many sectors each slot has; whether it can be cut, and shows tears; and its cut.
+export class BootMap {
+  constructor() {
+    this.element = drawn("svg", { class: "map", role: "img" });
   }
-  pen.stroke();
-  return context.createPattern(tile, "repeat");
-}
 
-class Drawing {
-  constructor(canvas, boot) {
-    this.canvas = canvas;
+  // Draws a boot anew where it is another one, or more of it is known, or the page is wider; else it moves the cut alone.
+  draw(boot) {
+    const wide = this.element.getBoundingClientRect().width, shown = [wide, boot, boot.frames, boot.torn];
+    if (!wide) return;
+    if (!this.shown || shown.some((it, i) => it !== this.shown[i])) this.draw_all(wide, boot);
+    this.shown = shown;
+    this.cut.replaceChildren(...this.cut_parts());
+  }
+
+  draw_all(wide, boot) {
+    const margin = parseFloat(getComputedStyle(this.element).getPropertyValue("--margin"));
     this.boot = boot;
-    this.at = places(canvas, boot);
-    const scale = devicePixelRatio;
-    canvas.style.height = `${this.at.height}px`;
-    canvas.width = Math.round(canvas.clientWidth * scale);
-    canvas.height = Math.round(this.at.height * scale);
-    this.pen = canvas.getContext("2d");
-    this.pen.scale(scale, scale);
-    this.colour = colours();
+    this.at = places(wide, margin, boot);
+    this.cut = drawn("g", { class: "cut" });
+    const part = (name, ...parts) => drawn("g", { class: name }, ...parts), parts = [part("names", ...this.names())];
+    if (boot.frames) parts.push(part("words", ...this.words()), part("targets", ...this.targets()), part("operations", ...this.operations()));
+    if (boot.frames && boot.can_be_cut) parts.push(part("ends", ...this.ends()));
+    if (boot.shows_tears) parts.push(part("tears", ...this.tears()));
+    this.element.setAttribute("viewBox", `0 0 ${wide} ${px(this.at.height)}`);
+    this.element.setAttribute("aria-label", map_text(boot));
+    this.element.replaceChildren(...parts, part("edges", ...this.edges()), this.cut);
   }
 
-  // Draws all but the cut; of a map that is complete that is kept as a picture, by its width and scheme.
-  whole() {
-    const { canvas } = this, key = `${canvas.width} ${this.colour("paper")}`;
-    if (this.boot.picture?.key === key) {
-      this.pen.drawImage(this.boot.picture.copy, 0, 0, canvas.clientWidth, this.at.height);
-      return;
-    }
-    this.make_fills();
-    this.names();
-    this.sectors();
-    this.targets();
-    this.operations();
-    this.ends();
-    this.tears();
-    this.frames();
-    if (!this.boot.complete) return;
-    const copy = Object.assign(document.createElement("canvas"), { width: canvas.width, height: canvas.height });
-    copy.getContext("2d").drawImage(canvas, 0, 0);
-    this.boot.picture = { key, copy };
-  }
-
-  make_fills() {
-    const stripes = (under, over) => striped(this.pen, this.colour(under), this.colour(over));
-    this.fills = {
-      a: this.colour("a"), b: this.colour("b"), blank: this.colour("blank"),
-      other: stripes("other", "other-line"), trailer: stripes("trailer", "trailer-line"),
-      "a half": stripes("a", "a-line"), "b half": stripes("b", "b-line"),
-      right: this.colour("right"), wrong: stripes("wrong", "wrong-line"), bad: stripes("bad", "bad-line"), busy: stripes("busy", "busy-line"), mixed: stripes("trailer", "trailer-line"),
-    };
-  }
-
-  text(text, x, y, colour, align = "center") {
-    this.pen.fillStyle = this.colour(colour);
-    this.pen.font = "11px system-ui, sans-serif";
-    this.pen.textAlign = align;
-    this.pen.textBaseline = "middle";
-    this.pen.fillText(text, x, y);
+  // The number of the operation under the pointer.
+  number_at(event) {
+    const { left, width } = this.element.getBoundingClientRect(), { wide, margin, column } = this.at, { view } = this.boot;
+    const number = Math.floor(view.from + (((event.clientX - left) * wide) / width - margin) / column);
+    return Math.max(view.from, Math.min(view.to - 1, number));
   }
 
   names() {
-    const { top, high, margin } = this.at, { primary, secondary } = this.boot;
-    const tears = this.boot.shows_tears ? [["a tear here", "", top.tears + ENDS / 2]] : [];
-    const short = margin < 40, rows = [["a cut here", "", ENDS / 2], ...tears, ["operation", "", top.operations + OPERATIONS / 2],
+    const { top, high, margin } = this.at, { primary, secondary, shows_tears, frames } = this.boot, middle = top.operations + OPERATIONS / 2;
+    const tears = shows_tears ? [["a tear here", "", top.tears + ENDS / 2]] : [];
+    const short = margin < 40, rows = [["a cut here", "", ENDS / 2], ...tears, ["operation", "", middle],
       ["primary", "P", top.primary + (primary * high) / 2], ["secondary", "S", top.secondary + (secondary * high) / 2]];
-    for (const [long, letter, y] of rows) this.text(short ? letter : long, margin - 8, y, "soft", "right");
+    const waits = frames ? [] : [said("waits", margin + 6, middle, "asking the program")];
+    return [...rows.map(([long, letter, y]) => said("name", margin - 8, y, short ? letter : long)), ...waits];
   }
 
-  // What a cut at each operation comes to; what is not right comes last, and is wide enough to be seen.
+  // What a cut before each operation comes to; what is not right comes last, and is wide enough to be seen.
   ends() {
-    const order = [...this.boot.segments].sort((one, other) => (other[2] === "right") - (one[2] === "right"));
-    for (const [from, to, kind] of order) {
-      const left = this.at.x(from), right = Math.max(this.at.x(to), left + (kind === "right" ? 0 : LEAST));
-      this.pen.fillStyle = this.fills[kind];
-      this.pen.fillRect(left, 0, right - left, ENDS - 1);
-      if (right - left >= 12) this.text(MARKS[kind], (left + right) / 2, ENDS / 2, kind === "mixed" ? "trailer-text" : `${kind}-text`);
-    }
+    const runs = runs_of(this.boot.frames, frame => frame.ends);
+    runs.sort((one, other) => (other.value === "right") - (one.value === "right"));
+    return runs.flatMap(({ from, to, value }) => this.end(value, from, to, 0));
+  }
+
+  // A mark of operations in one of the strips.
+  end(kind, from, to, top) {
+    const { x, wide } = this.at, width = Math.max(x(to) - x(from), LEAST);
+    return told_box(kind, Math.min(x(from), wide - width), top, width, ENDS - 1, MARKS[kind]);
   }
 
   // What a tear in each operation comes to at worst, where that is not as a cut.
   tears() {
-    const { top, margin, wide } = this.at, { torn } = this.boot;
-    if (!this.boot.shows_tears) return;
-    this.pen.fillStyle = this.colour("blank");
-    this.pen.fillRect(margin, top.tears, wide, ENDS - 1);
-    this.pen.strokeStyle = this.colour("edge");
-    this.pen.strokeRect(margin + 0.5, top.tears + 0.5, wide - 1, ENDS - 2);
-    if (!torn) this.text("asking the program", margin + 6, top.tears + ENDS / 2, "soft", "left");
-    else this.torn_marks(torn);
+    const { top, margin, wide } = this.at, { torn, view } = this.boot;
+    const under = [box("blank", margin, top.tears, wide - margin, ENDS - 1), box("edge", margin + 0.5, top.tears + 0.5, wide - margin - 1, ENDS - 2)];
+    if (!torn) return [...under, said("waits", margin + 6, top.tears + ENDS / 2, "asking the program")];
+    const seen = [...torn].map(([number, kind]) => [number - view.from, kind]).filter(([i]) => i >= 0 && i < view.to - view.from);
+    return [...under, ...seen.flatMap(([i, kind]) => this.end(kind, i, i + 1, top.tears))];
   }
 
-  torn_marks(kinds) {
-    const { x, top } = this.at, { view } = this.boot;
-    for (const [number, kind] of kinds) {
-      if (number < view.from || number >= view.to) continue;
-      const left = x(number), right = Math.max(x(number + 1), left + LEAST);
-      this.pen.fillStyle = this.fills[kind];
-      this.pen.fillRect(left, top.tears, right - left, ENDS - 1);
-      if (right - left >= 12) this.text(MARKS[kind], (left + right) / 2, top.tears + ENDS / 2, `${kind}-text`);
-    }
-  }
-
+  // The kind of each operation; where they have no room, like ones are one box.
   operations() {
-    const { x, top, column, margin } = this.at, gap = column > 5 ? 1 : 0, middle = top.operations + OPERATIONS / 2 + 0.5;
-    if (!this.boot.shows_each) this.text("zoom in to see each operation", margin + 4, middle, "soft", "left");
-    for (const { number, what } of this.boot.operations) {
-      this.pen.fillStyle = this.colour(what);
-      this.pen.fillRect(x(number), top.operations, Math.max(column - gap, 0.6), OPERATIONS);
-      if (column >= 11) this.text(LETTERS[what], x(number) + column / 2, middle, `${what}-text`);
-    }
-  }
-
-  // Lines round the operations and the slots, since some of what they hold stands out little from the page.
-  frames() {
-    const { top, high, margin, wide } = this.at, { primary, secondary } = this.boot;
-    this.pen.strokeStyle = this.colour("edge");
-    this.pen.lineWidth = 1;
-    for (const [upper, height] of [[top.operations, OPERATIONS], [top.primary, primary * high], [top.secondary, secondary * high]]) {
-      this.pen.strokeRect(margin - 0.5, upper - 0.5, wide, height);
-    }
-  }
-
-  // What lay in the sectors before each operation that was asked for, up to the next.
-  sectors() {
-    const { samples, view } = this.boot;
-    samples.forEach((sample, i) => {
-      const left = this.at.x(sample.number), right = this.at.x(samples[i + 1]?.number ?? view.to);
-      for (const slot of ["primary", "secondary"]) this.column(slot, sample.slots[slot], left, right);
+    const { x, top, column } = this.at, { frames } = this.boot, gap = column > 5 ? 1 : 0;
+    return runs_of(frames, frame => (gap ? frame : frame.what)).flatMap(({ from, to }) => {
+      const { what } = frames[from];
+      return told_box(what, x(from), top.operations, x(to) - x(from) - gap, OPERATIONS, LETTERS[what]);
     });
   }
 
-  column(slot, words, left, right) {
-    const { high, top, column } = this.at, apart = column > 9 && high > 9 ? 1 : 0;
-    for (let begin = 0, end; begin < words.length; begin = end) {
-      const kind = class_of(words[begin]);
-      end = begin + 1;
-      while (!apart && end < words.length && class_of(words[end]) === kind) end++;
-      this.pen.fillStyle = this.fills[kind];
-      this.pen.fillRect(left, top[slot] + begin * high, right - left - apart, (end - begin) * high - apart);
-      if (apart && right - left >= 24 && kind !== "blank" && !kind.endsWith("half")) {
-        this.text(words[begin], (left + right) / 2, top[slot] + (begin + 0.5) * high, `${kind}-text`);
-      }
-    }
+  // The words of each sector before the operations: those that are the same, one after another, are one box, with the word at the first.
+  words() {
+    const { x, top, high, column } = this.at, { frames } = this.boot, gap = high > 9 ? 1 : 0, between = column > 9 ? gap : 0;
+    return SLOTS.flatMap(slot => {
+      const moments = runs_of(frames, frame => frame.words[slot]);
+      return moments[0].value.flatMap((_, sector) => runs_of(moments, ({ value }) => value[sector]).flatMap(run => {
+        const left = x(moments[run.from].from), wide = x(moments[run.to - 1].to) - left - between, word = run.value === "-" ? "" : run.value;
+        const place = column >= room_of(word) ? column : WORD;
+        return told_box(class_of(run.value), left, top[slot] + sector * high, wide, high - gap, word, place);
+      }));
+    });
   }
 
-  // The sector that each operation changes.
+  // The sector that each operation changes: in a frame where there is room, else marked.
   targets() {
-    const { x, high, top, column } = this.at;
-    for (const { number, target, what } of this.boot.operations) {
-      const left = x(number), upper = top[target.slot] + target.sector * high;
-      if (column >= 7 && high >= 7) {
-        this.pen.strokeStyle = this.colour("ink");
-        this.pen.lineWidth = 2;
-        this.pen.strokeRect(left + 0.5, upper + 0.5, column - 2, high - 2);
-      } else {
-        this.pen.fillStyle = this.colour(what === "erase" ? "mark-erase" : "ink");
-        this.pen.fillRect(left, upper, Math.max(column, 0.8), Math.max(high, 1.5));
-      }
-    }
+    const { x, top, high, column } = this.at, { frames } = this.boot, has_room = column >= 7 && high >= 7;
+    const value_of = ({ what, target: { slot, sector } }) => `${what === "erase"} ${slot} ${sector}`;
+    return runs_of(frames, has_room ? frame => frame : value_of).map(({ from, to }) => {
+      const { what, target } = frames[from], left = x(from), upper = top[target.slot] + target.sector * high;
+      if (has_room) return box("target", left + 0.5, upper + 0.5, column - 2, high - 2);
+      return box(what === "erase" ? "mark erased" : "mark", left, upper, Math.max(x(to) - left, 0.8), Math.max(high, 1.5));
+    });
   }
 
-  // Dims what did not happen, and marks the cut.
-  cut() {
-    const { cut, view } = this.boot, { x, top, margin, wide, height } = this.at;
-    if (cut === null || cut < view.from || cut >= view.to) return;
-    const left = x(cut);
-    this.pen.globalAlpha = 0.62;
-    this.pen.fillStyle = this.colour("paper");
-    this.pen.fillRect(left, top.operations, margin + wide - left, height - top.operations);
-    this.pen.globalAlpha = 1;
-    this.pen.fillStyle = this.colour("ink");
-    this.pen.fillRect(left - 1.25, 0, 2.5, height);
-    this.pen.beginPath();
-    for (const [dx, dy] of [[3, 0], [-5, 9], [-1, 9], [-3, 17], [5, 7], [1, 7]]) this.pen.lineTo(left + dx, top.operations - 4 + dy);
-    this.pen.fillStyle = this.colour("bolt");
-    this.pen.fill();
-    this.pen.strokeStyle = this.colour("ink");
-    this.pen.lineWidth = 1;
-    this.pen.closePath();
-    this.pen.stroke();
+  // Lines round the operations and the slots, since some of what they hold stands out little from the page.
+  edges() {
+    const { top, high, margin, wide } = this.at, { primary, secondary } = this.boot;
+    const parts = [[top.operations, OPERATIONS], [top.primary, primary * high], [top.secondary, secondary * high]];
+    return parts.map(([upper, height]) => box("edge", margin - 0.5, upper - 0.5, wide - margin, height));
   }
-}
 
-// Draws a boot: its view of operations, what a cut comes to in segments, its operations, samples of the sectors, and its cut.
-export function draw_map(canvas, boot) {
-  if (!canvas.clientWidth) return;
-  const drawing = new Drawing(canvas, boot);
-  drawing.whole();
-  drawing.cut();
+  // What did not happen, dimmed, and the cut.
+  cut_parts() {
+    const { cut, view } = this.boot, { x, top, wide, height } = this.at;
+    if (cut === null || cut < view.from || cut >= view.to) return [];
+    const left = x(cut - view.from), place = `translate(${px(left)} ${top.operations - 4})`;
+    const bolt = drawn("path", { class: "bolt", d: "m3 0-8 9h4l-2 8 8-10h-4z", transform: place });
+    return [box("dim", left, top.operations, wide - left, height - top.operations), box("at", left - 1.25, 0, 2.5, height), bolt];
+  }
 }

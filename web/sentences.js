@@ -48,3 +48,12 @@ export function counted(counts, good) {
   for (const end of ["none", "panic", "fault"]) if (counts[end] !== "0") parts.push(`${grouped(counts[end])} end in ${end}`);
   return `${parts.join(", ")}. A last boot makes at most ${grouped(counts["most-ops"])} operations.`;
 }
+
+// A map in words: its boot, and what cuts before the operations that it shows come to, once that is known.
+export function map_text({ name, type, count, view: { from, to }, frames, can_be_cut }) {
+  const many = number => number.toLocaleString("en"), boot = `Map of ${name}: ${type}, ${many(count)} operation${count === 1 ? "" : "s"}.`;
+  if (!frames || !can_be_cut) return boot;
+  const of = kind => many(frames.filter(frame => frame.ends === kind).length);
+  const where = to - from < count ? ` before operations ${many(from)} to ${many(to - 1)}` : "";
+  return `${boot} Of the cuts${where}, ${of("right")} end right, ${of("wrong")} wrong, ${of("bad")} with no boot.`;
+}

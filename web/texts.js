@@ -31,35 +31,39 @@ function places_of(words) {
 }
 
 // An operation: its number, its text, what it is, and the sectors that it changes and reads. An erase names a sector, the others an offset.
-export function operation_of(line, sector_bytes) {
-  const [number, ...words] = line.split(" ");
-  const { target, source } = places_of(words);
+function operation_of(number, text, sector_bytes) {
+  const words = text.split(" "), { target, source } = places_of(words);
   const sector = place => place && { slot: place[0], sector: words[0] === "erase" ? Number(place[1]) : Math.floor(Number(place[1]) / sector_bytes) };
-  return { number: Number(number), text: words.join(" "), what: words[0], target: sector(target), source: sector(source) };
+  return { number: Number(number), text, what: words[0], target: sector(target), source: sector(source) };
 }
 
-// The operations that `trace` prints of its last boot.
-export function last_operations(text, sector_bytes) {
-  const lines = lines_of(text), begin = lines.findLastIndex(line => /^boot \d+ \w+$/.test(line));
-  return lines.slice(begin + 1).filter(line => /^\d+ /.test(line)).map(line => operation_of(line, sector_bytes));
+// The words of a slot, one for each sector, of such as may stand for several: `a2..a9`, which go on with one another, or `-x3`, which are alike.
+export function each_word(text) {
+  return text.split(" ").flatMap(word => {
+    const [, slot, first, last] = /^([ab])(\d+)\.\.\1(\d+)$/.exec(word) ?? [], [, like, many] = /^(.+)x(\d+)$/.exec(word) ?? [];
+    if (slot) return Array.from({ length: last - first + 1 }, (_, i) => `${slot}${Number(first) + i}`);
+    return many ? Array(Number(many)).fill(like) : [word];
+  });
 }
 
-// The rows of a page of `explore`: what each schedule comes to, by its last cut.
-export function rows_of(text) {
-  const rows = new Map();
-  for (const line of lines_of(text)) {
-    const [schedule, ...rest] = line.split(" ");
-    if (/^\d+(\.\d+)*$/.test(schedule)) rows.set(cuts_of(schedule).at(-1), rest.join(" "));
-  }
-  return rows;
+const ENDS = { right: "right", wrong: "wrong", "no-boot": "bad" };
+
+// The frames of the last boot that `frames` prints: operations, each with the words of the sectors before it, what a cut there comes to, and the
+// kind of that. Where the words are the same they are one list.
+export function frames_of(text, sector_bytes) {
+  const lines = lines_of(text), begin = lines.findLastIndex(line => /^boot \d+ \w+ \d+$/.test(line)), known = new Map();
+  const words_of = slot => known.get(slot) ?? known.set(slot, each_word(slot)).get(slot);
+  return lines.slice(begin + 1).filter(line => line.includes("\t")).map(line => {
+    const [, number, , operation, , primary, secondary, outcome, ends] = line.split("\t");
+    const words = { primary: words_of(primary), secondary: words_of(secondary) };
+    return { ...operation_of(number, operation, sector_bytes), words, outcome, ends: ENDS[ends] };
+  });
 }
 
-// What the counted rows come to: `right`, `wrong` (a boot, and not as expected), `bad` (no boot), or `mixed`.
-export function kind_of(counts) {
-  const { rows, boot, right = boot } = counts;
+// What a counted row comes to: `right`, `wrong` (a boot, and not as expected) or `bad` (no boot).
+export function kind_of({ rows, boot, right = boot }) {
   if (right === rows) return "right";
-  if (boot === "0") return "bad";
-  return boot === rows && right === "0" ? "wrong" : "mixed";
+  return boot === rows ? "wrong" : "bad";
 }
 
 // A count with commas; one that is not known exactly begins with `at least`.

@@ -1,7 +1,7 @@
 "use strict";
 // One instance of the library: a call after another, each over bytes that come with it. One message holds the module.
 
-const ROOM = 2 ** 16, FLASH_LIMIT = 2 ** 25; // bytes
+const ROOM = 2 ** 19, FLASH_LIMIT = 2 ** 25; // bytes
 const KINDS = ["none", "test", "perm", "revert", "flash"], GRAINS = ["call", "unit"];
 const NOTHING = new Uint8Array();
 const encoder = new TextEncoder(), decoder = new TextDecoder();

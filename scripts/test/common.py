@@ -1,5 +1,6 @@
 """What the tests share: where things are, the built program, and what a test needs."""
 import pathlib
+import re
 import shutil
 import subprocess
 import sys
@@ -28,3 +29,13 @@ def build():
 def mcsim(*words):
     """What a command prints. It must not be refused."""
     return subprocess.run([PROGRAM, *words], capture_output=True, text=True, check=True, cwd=ROOT).stdout
+
+
+def each_word(words):
+    """A word for each sector, of words that may stand for several."""
+    for word in words:
+        run, many = re.fullmatch(r"([ab])(\d+)\.\.\1(\d+)", word), re.fullmatch(r"(.+?)x(\d+)", word)
+        if run:
+            yield from (f"{run[1]}{number}" for number in range(int(run[2]), int(run[3]) + 1))
+        else:
+            yield from [many[1]] * int(many[2]) if many else [word]

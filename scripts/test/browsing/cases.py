@@ -26,7 +26,6 @@ def images():
 def small(page):
     start = Start(page.library, SMALL, images())
     page.case("small", start, [9, 4])
-    page.compare_map("small", start, [9, 4])
     hover(page, start, [9, 4], 0, 12)
     skip(page, start, [9, 12])
     stop(page, start)
@@ -41,8 +40,8 @@ def small(page):
 def hover(page, start, cuts, index, number):
     """What the map says of an operation under the pointer, and a click that cuts there."""
     count = int(start.outcome(cuts[:index])["ops"])
-    page.browser.say(f"document.querySelectorAll('canvas')[{index}].scrollIntoView()")
-    box = page.browser.say(f"(box => [box.left, box.top, box.width])(document.querySelectorAll('canvas')[{index}].getBoundingClientRect())")
+    page.browser.say(f"document.querySelectorAll('.map')[{index}].scrollIntoView()")
+    box = page.browser.say(f"(box => [box.left, box.top, box.width])(document.querySelectorAll('.map')[{index}].getBoundingClientRect())")
     x, y = box[0] + 74 + (box[2] - 74) * (number + 0.5) / count, box[1] + 50
     page.browser.move_to(x, y)
     upto = [*cuts[:index], number]
@@ -135,15 +134,22 @@ def keys(page, start):
 
 
 def save(page, start):
-    """The flash as a file."""
-    folder = pathlib.Path(page.folder.name)
-    page.browser.send("Browser.setDownloadBehavior", behavior="allow", downloadPath=str(folder))
+    """The flash as a file, and all power-ons as a page."""
+    page.browser.send("Browser.setDownloadBehavior", behavior="allow", downloadPath=page.folder.name)
     page.browser.say("[...document.querySelectorAll('#boots button')].find(it => it.textContent === 'Save this flash').click()")
-    wanted, end = start.flash([0]), time.monotonic() + PATIENCE
-    path = folder / "flash-0.bin"
+    saved(page, "flash-0.bin", start.flash([0]))
+    page.browser.say("document.getElementById('save-page').click()")
+    most = max(int(start.outcome(cuts)["ops"]) for cuts in ([], [0]))
+    saved(page, "swap.html", start.say("picture", "--schedule", "0", "--from", "0", "--to", str(most - 1)).encode())
+    page.browser.wait("document.getElementById('save-page').textContent === 'Save as a page'")
+
+
+def saved(page, name, wanted):
+    """A file that the browser saves."""
+    path, end = pathlib.Path(page.folder.name) / name, time.monotonic() + PATIENCE
     while time.monotonic() < end and not (path.exists() and path.stat().st_size == len(wanted)):
         time.sleep(0.05)
-    page.same("small saved", path.exists() and path.read_bytes(), wanted)
+    page.same(f"{name} saved", path.exists() and path.read_bytes(), wanted)
 
 
 def many_cuts(page, start):
@@ -191,8 +197,6 @@ def kinds(page):
         page.same(f"{kind} in a sentence", page.text("#verdict h2").split(" ", 1)[1], f"{WHOLE_BOUND} ends with {ends}.")
         page.same(f"{kind} in the legend", page.text("#right-means"), "a cut here ends with " + re.sub(r" \([^)]*\)", "", ends))
         page.compare(kind, start, [])
-        if int(outcome["ops"]):
-            page.compare_map(kind, start, [])
 
 
 def like(page):
@@ -218,6 +222,10 @@ def unit(page):
         page.await_done(text_of([100000 + SLIDES]))
     page.compare("unit near", start, [100000 + SLIDES])
     page.photograph("unit-near")
+    page.browser.say("document.querySelector('#boots input').focus()")
+    page.browser.key("Home", 36)
+    page.await_done("0")
+    page.compare("unit, the view gone with the cut", start, [0])
     revert = Start(page.library, SMALL, images(), kind="revert", grain="unit")
     page.case("forgotten", revert, [4])
 

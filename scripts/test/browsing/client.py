@@ -44,6 +44,7 @@ class Client:
         words = ["replay", *start.layout, *start.source, *start.rules, "--schedule", "9.4"]
         wanted = {"status": 0, "out": start.say("replay", "--schedule", "9.4"), "err": ""}
         self.page.same("a command", self.question("run", words=words, files=digests), (200, wanted))
+        self.draws(start, words, digests)
         self.refuses_strangers(words, digests)
         self.refuses_questions(words, digests)
         self.refuses_sizes()
@@ -53,6 +54,13 @@ class Client:
         self.makes(start, digests)
         self.reads_documents()
         self.page.same("a command after all that", self.question("run", words=words, files=digests), (200, wanted))
+
+    def draws(self, start, words, digests):
+        """Frames and a picture, of so many operations of each boot."""
+        for command in ("frames", "picture"):
+            span = ["--schedule", "9.4", "--from", "1", "--to", "12"]
+            wanted = {"status": 0, "out": start.say(command, *span), "err": ""}
+            self.page.same(command, self.question("run", words=[command, *words[1:], *span[2:]], files=digests), (200, wanted))
 
     def refuses_strangers(self, words, digests):
         body = json.dumps({"words": words, "files": digests})
@@ -75,7 +83,8 @@ class Client:
                            ("a zero byte", ["explain", "3\x001"]),
                            ("half a letter", ["explain", "\ud800"]), ("all rows", ["explore", *words[1:-2], "--cuts", "16", "--all"]),
                            ("too many rows", ["explore", *words[1:-2], "--cuts", "16", "--limit", "99999999"]),
-                           ("too many operations", ["trace", *words[1:], "--from", "0", "--to", "4000000000"])):
+                           ("a picture of all operations", ["picture", *words[1:]]),
+                           *((f"too many operations of {name}", [name, *words[1:], "--from", "0", "--to", "4000000000"]) for name in ("trace", "frames", "picture"))):
             self.page.same(f"{name} is refused", self.question("run", words=line, files=digests)[0], 400)
         unknown = "0" * 64
         self.page.same("an unknown digest", self.question("run", words=words, files=[digests[0], unknown]), (409, {"unknown": [unknown]}))

@@ -8,6 +8,7 @@ import sys
 import tempfile
 
 from browsing.browser import PATIENCE, Browser
+from browsing.maps import READ, DrawnMap
 from browsing.starts import bytes_text, text_of
 from common import ROOT
 
@@ -22,8 +23,8 @@ class Tally:
     def __init__(self):
         self.compared, self.differ, self.failed = 0, 0, []
 
-    def same(self, what, one, other):
-        self.compared += 1
+    def same(self, what, one, other, count=1):
+        self.compared += count
         if one != other:
             self.differ += 1
             print(f"DIFFER {what}:\n  page     {one!r}\n  expected {other!r}", flush=True)
@@ -146,6 +147,8 @@ class Page:
             cuts_before = [line[len("cut before "):] for line in trace if line.startswith("cut before ")]
             self.same(f"{name} operation", self.text(card + " .line code"), cuts_before[index])
             self.same(f"{name} slider says", self.browser.say(f"document.querySelector('{card} input').getAttribute('aria-valuetext')"), f"before {cuts_before[index]}")
+        if int(said["ops"]):
+            self.compare_map(name, start, cuts, index)
         most = max(start.numbers[4:])
         for place, words in enumerate(start.sectors(cuts[:index + 1], end=index == len(cuts))):
             labels = self.browser.say(f"[...document.querySelectorAll('{card} .sectors')[{place}].querySelectorAll('.piece')].map(it => "
@@ -196,26 +199,19 @@ class Page:
         if code:
             self.same(f"{name} is {code}", lines[0].split()[1], code)
 
-    def compare_map(self, name, start, cuts):
-        """The map of the last power-on, column by column and sector by sector, and what a cut at each operation comes to."""
-        rows = [line for line in start.say("explore", "--cuts", str(len(cuts) + 1), "--after", text_of(cuts), "--limit", "64",
-                                           "--until", text_of([*cuts[:-1], cuts[-1] + 1]) if cuts else "99999").splitlines() if line[0].isdigit()]
-        read = """(places => { const canvas = [...document.querySelectorAll('canvas')].at(-1), pen = canvas.getContext('2d');
-            const style = getComputedStyle(document.documentElement);
-            const name = ([r, g, b]) => ['a', 'b', 'blank', 'right'].find(it => style.getPropertyValue('--' + it).trim() ===
-                '#' + [r, g, b].map(x => x.toString(16).padStart(2, '0')).join('')) ?? 'other';
-            const wide = canvas.clientWidth - 74;
-            return places.map(([share, y]) => name(pen.getImageData(Math.round(74 + wide * share + 3), y, 1, 1).data)); })"""
-        count, most = len(rows), sum(start.numbers[4:])
-        places = [[column / count, 3] for column in range(count)]
-        wanted = ["right" if row.split()[1] == "boot" else "other" for row in rows]
-        for column in range(count):
-            for words, top in zip(start.sectors([*cuts, column]), (36, 36 + start.numbers[4] * 17 + 4)):
-                for sector, word in enumerate(words):
-                    if "~" not in word:
-                        places.append([column / count, top + sector * 17 + 3])
-                        wanted.append({"-": "blank", "t": "other", "*": "other"}.get(word, word[0]))
-        self.same(f"{name} map of {count} operations and {most} sectors", self.browser.say(f"{read}({json.dumps(places)})"), wanted)
+    def compare_map(self, name, start, cuts, index):
+        """The map of a power-on, operation by operation and sector by sector, and what it says to who does not see it."""
+        said, span = start.outcome(cuts[:index]), re.findall(r"\d+", self.text(f"#boots > :nth-child({index + 1}) .span").replace(",", ""))
+        first, last = map(int, span or (0, int(said["ops"]) - 1))
+        frames, can_be_cut = start.frames(cuts[:index], first, last), index < 16
+        drawn = DrawnMap(self.browser.say(f"{READ}(document.querySelectorAll('.map')[{index}])"), frames, start.numbers[4:])
+        cells = len(frames) * (sum(start.numbers[4:]) + 3)
+        self.same(f"{name} map of {len(frames)} operations", drawn.differences(can_be_cut)[:20], [], cells)
+        many = {sign: f"{sum(frame['ends'] == sign for frame in frames):,}" for sign in ("right", "wrong", "no-boot")}
+        where = f" before operations {first:,} to {last:,}" if span else ""
+        ends = f" Of the cuts{where}, {many['right']} end right, {many['wrong']} wrong, {many['no-boot']} with no boot." if can_be_cut else ""
+        label = f"Map of power-on {index + 1}: {said['type']}, {int(said['ops']):,} operation{'' if said['ops'] == '1' else 's'}."
+        self.same(f"{name} map in words", self.browser.say(f"document.querySelectorAll('.map')[{index}].getAttribute('aria-label')"), label + ends)
 
     def photograph(self, name):
         for view, (wide, dark) in VIEWS.items() if self.out else ():

@@ -3,6 +3,8 @@ import hashlib
 import re
 import struct
 
+from common import each_word
+
 FIELDS = ("sector", "unit", "max-sectors", "chunk", "primary", "secondary")
 SMALL, BOARD = (256, 8, 4, 128, 4, 3), (4096, 4, 128, 1024, 118, 117)
 FINE = (64, 8, 16, 64, 16, 15)  # small images have many sectors
@@ -26,7 +28,8 @@ class Start:
         self.layout = [word for name, number in zip(FIELDS, numbers) for word in ("--" + name, str(number))]
         self.source = ["--flash", "a"] if kind == "flash" else ["--kind", kind, "--image-a", "a", "--image-b", "b"]
         self.rules = ["--grain", grain, "--profile", profile]
-        self.expected = list(expected) if kind == "flash" else ["--all-right"]
+        self.in_slots = list(expected)
+        self.expected = self.in_slots if kind == "flash" else ["--all-right"]
         self.at_start = None
         self.names = {"a": "flash of us.bin" if kind == "flash" else "a of us.bin", "b": "b of us.bin"}
 
@@ -42,6 +45,13 @@ class Start:
     def outcome(self, cuts=()):
         """The lines of `replay`, by their names."""
         return dict(line.split(" ", 1) for line in self.say("replay", "--schedule", text_of(cuts)).splitlines())
+
+    def frames(self, cuts, first, last):
+        """The frames of the boot after the cuts, of these operations, by the names of their fields; `words` has a word for each sector."""
+        asked = ["--schedule", text_of(cuts), "--from", str(first), "--to", str(last), *self.in_slots]
+        names, *rows = [line.split("\t") for line in self.say("frames", *asked).splitlines() if "\t" in line]
+        frames = [dict(zip(names, row)) for row in rows if row[0] == str(len(cuts))]
+        return [{**frame, "words": [*each_word(frame["primary"].split()), *each_word(frame["secondary"].split())]} for frame in frames]
 
     def sectors(self, cuts, end=False):
         """The words of both slots. Where several sectors of the start hold the same bytes, which of them is named is found in these bytes."""

@@ -2,7 +2,7 @@
 import assert from "node:assert/strict";
 import test from "node:test";
 import { command_lines, quoted } from "../../../web/commands.js";
-import { class_of, cuts_of, fields_of, grouped, is_link, kind_of, last_operations, meaning_of, rows_of, schedule_text, slots_of } from "../../../web/texts.js";
+import { class_of, cuts_of, each_word, fields_of, frames_of, grouped, is_link, kind_of, meaning_of, schedule_text, slots_of } from "../../../web/texts.js";
 
 const NUMBERS = [["--sector", "256"]], RULES = [["--grain", "call"], ["--profile", "1"]];
 const OF_FLASH = { numbers: NUMBERS, rules: RULES, source: [["--flash", "a"]], expected: [["--expect-primary", "2.0.0"], ["--expect-secondary", "none"]],
@@ -53,20 +53,39 @@ test("lines of names and values", () => {
   assert.deepEqual(slots_of("primary a0 -\nsecondary b0\n"), { primary: ["a0", "-"], secondary: ["b0"] });
 });
 
-test("operations of the last boot, with the sectors that they change and read", () => {
-  const trace = "boot 0 test\n0 erase primary 3\ncut before 1 write primary 968 entry 11 01\nboot 1 test\n0 copy primary 256 to secondary 512 length 128\n1 erase secondary 1\nresult boot\n";
-  assert.deepEqual(last_operations(trace, 256), [
-    { number: 0, text: "copy primary 256 to secondary 512 length 128", what: "copy", target: { slot: "secondary", sector: 2 }, source: { slot: "primary", sector: 1 } },
-    { number: 1, text: "erase secondary 1", what: "erase", target: { slot: "secondary", sector: 1 }, source: null }]);
+test("a word for each sector, of words that stand for several", () => {
+  assert.deepEqual(each_word("a0 -x3"), ["a0", "-", "-", "-"]);
+  assert.deepEqual(each_word("a8..a11 b9 tx2 a0~x2 b3~ *"), ["a8", "a9", "a10", "a11", "b9", "t", "t", "a0~", "a0~", "b3~", "*"]);
 });
 
-test("rows by their last cut", () => {
-  assert.deepEqual([...rows_of("9.3 boot test 1\n9.4 none none 0\nnext mc1:x\n")], [[3, "boot test 1"], [4, "none none 0"]]);
+const FRAMES = `mcsim 0.1.0
+schedule 9
+boot\tnumber\tcut\toperation\tsector\tprimary\tsecondary\toutcome\tends
+boot 0 test 18
+0\t9\tcut\terase primary 0\tprimary 0\ta0 -x2 t\tb0..b2\tboot test 9 2.0.0+0/80 1.0.0+0/80 revert\tright
+boot 1 test 2
+1\t7\t-\tcopy primary 256 to secondary 512 length 128\tsecondary 2\ta0x2 - t\tb0 -x2\tnone none 0 none none none\tno-boot
+1\t8\t-\terase secondary 1\tsecondary 1\ta0x2 - t\tb0 - a1~\tboot test 9 1.0.0+0/80 none none\twrong
+result boot
+type test
+ops 2
+ends right
+`;
+
+test("frames of the last boot, with the sectors that they change and read, a word for each sector, and the kind of end", () => {
+  const frames = frames_of(FRAMES, 256);
+  assert.deepEqual(frames, [
+    { number: 7, text: "copy primary 256 to secondary 512 length 128", what: "copy", target: { slot: "secondary", sector: 2 }, source: { slot: "primary", sector: 1 },
+      words: { primary: ["a0", "a0", "-", "t"], secondary: ["b0", "-", "-"] }, outcome: "none none 0 none none none", ends: "bad" },
+    { number: 8, text: "erase secondary 1", what: "erase", target: { slot: "secondary", sector: 1 }, source: null,
+      words: { primary: ["a0", "a0", "-", "t"], secondary: ["b0", "-", "a1~"] }, outcome: "boot test 9 1.0.0+0/80 none none", ends: "wrong" }]);
+  assert.equal(frames[0].words.primary, frames[1].words.primary);
+  assert.deepEqual(frames_of(FRAMES.replace(/^1\t.*\n/gm, ""), 256), []);
 });
 
-test("kinds of counted rows", () => {
-  const kinds = [[{ rows: "3", boot: "3" }, "right"], [{ rows: "3", boot: "3", right: "3" }, "right"], [{ rows: "3", boot: "0", right: "0" }, "bad"],
-    [{ rows: "3", boot: "3", right: "0" }, "wrong"], [{ rows: "3", boot: "2", right: "2" }, "mixed"]];
+test("kinds of a counted row", () => {
+  const kinds = [[{ rows: "1", boot: "1" }, "right"], [{ rows: "1", boot: "1", right: "1" }, "right"], [{ rows: "1", boot: "0", right: "0" }, "bad"],
+    [{ rows: "1", boot: "1", right: "0" }, "wrong"], [{ rows: "1", boot: "0" }, "bad"]];
   for (const [counts, kind] of kinds) assert.equal(kind_of(counts), kind);
 });
 
