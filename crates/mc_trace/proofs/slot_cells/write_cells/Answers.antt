@@ -36,11 +36,12 @@ loop-sector-preserved g c =
     let more : c.loop-sector.sector < sectors_of start.geometry c.args.slot =
     omega (arith, c.loop-sector-test.true, c.sectors-sectors.ensures.value, ap (λ (x : Geometry). sectors_of x c.args.slot) c.layout.ensures.value) in
     let run = rw c.cell_at-in-loop-sector.ensures at c.in_ok-run.ensures.run in
+    let count = next_count c.args.look.now.merges c.loop-sector.run c.cell_at-in-loop-sector.result in
     record {
       out = rw run (cell_out c.args.look.now start.geometry start.content c.args.slot c.args.bytes.now c.args.target c.loop-sector.sector _ _ _ c.loop-sector.run c.loop-sector.invariant.out more
           (rw c.cell_at-in-loop-sector.ensures at c.in_ok-run.ensures.written));
-      some = omega (arith, ap (λ (r : Run). r.count) c.in_ok-run.ensures.run, (next_count c.args.look.now.merges c.loop-sector.run c.cell_at-in-loop-sector.result).1);
-      at_most = omega (arith, ap (λ (r : Run). r.count) c.in_ok-run.ensures.run, (next_count c.args.look.now.merges c.loop-sector.run c.cell_at-in-loop-sector.result).0, c.loop-sector.invariant.at_most);
+      some = omega (arith, ap (λ (r : Run). r.count) c.in_ok-run.ensures.run, count.1);
+      at_most = omega (arith, ap (λ (r : Run). r.count) c.in_ok-run.ensures.run, count.0, c.loop-sector.invariant.at_most);
     }
 
 pub returns : goal.returns
