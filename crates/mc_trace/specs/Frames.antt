@@ -7,7 +7,7 @@ use Rattle.mc_flash.specs.{Flash.{Content, grain_text, sectors_of, slot_text}, G
 use Rattle.mc_flash.specs.{declared.op.Slot.{Slot}, declared.op.Slot.TheVariants.{Primary, Secondary}}
 use Rattle.mc_image.specs.{Valid.{Identity}, VersionText.{version_line}}
 use Rattle.mc_start.specs.Start.{Started, begun, schedule_text, start_digest}
-use Rattle.mc_trace.specs.{Runs.{run_of, run_word, runs_by}, Sectors.{cell_of, letter, sector_of}, Trace.{is_in, operation_text}, Verdict.{is_boot}}
+use Rattle.mc_trace.specs.{Patch.{sector_text}, Runs.{run_of, run_word, runs_by}, Sectors.{cell_of, letter, sector_of}, Trace.{is_in, operation_text}, Verdict.{is_boot}, Wear.{is_erase}}
 use Rattle.mc_trace.specs.{declared.cells.Cell.{Cell}, declared.frame.Form.{Form}, declared.frame.Look.{Look}, declared.frame.Sign.{Sign}, declared.header.TheConstants.{NAMES}}
 use Rattle.mc_trace.specs.{declared.runs.Run.{Run}, declared.trace.Span.{Span}}
 use Rattle.mc_trailer.specs.{Tables.{profile_text, type_text}, declared.tables.Rules.{Rules}}
@@ -122,22 +122,17 @@ report_text o = outcome_text o ++ (codes " " ++ rows.slots_text o)
 abbrev pub cut_text : Bool → List ℕ
 cut_text cut = if cut then codes "cut" else codes "-"
 
-abbrev pub sector_text : Slot × ℕ → List ℕ
-sector_text (slot, i) = slot_text slot ++ (codes " " ++ decimal i)
+abbrev pub target_text : Slot × ℕ → List ℕ
+target_text (slot, i) = sector_text slot i
 
 abbrev pub first_fields : Shown → List ℕ
 first_fields f = decimal f.boot ++ (codes "\t" ++ (decimal f.number ++ (codes "\t" ++ (cut_text f.is_cut ++ codes "\t"))))
 
 abbrev pub fields_begin : Geometry → Shown → List ℕ
-fields_begin g f = first_fields f ++ (operation_text g f.op ++ (codes "\t" ++ (sector_text (target_of g f.op) ++ codes "\t")))
+fields_begin g f = first_fields f ++ (operation_text g f.op ++ (codes "\t" ++ (target_text (target_of g f.op) ++ codes "\t")))
 
 abbrev pub fields_end : Expectation → Report → List ℕ
 fields_end e o = codes "\t" ++ (report_text o ++ (codes "\t" ++ (sign_text (sign_of e o) ++ codes "\n")))
-
-abbrev pub is_erase : Op → Bool
-is_erase (ops.Erase slot sector) = true
-is_erase (ops.Program slot start bytes) = false
-is_erase (ops.Copy from start to offset len) = false
 
 abbrev pub erase_class : Bool → List ℕ
 erase_class erase = if erase then codes " e" else []
@@ -229,20 +224,20 @@ sections_text look start boot x (cut ∷ cuts) = boot_section look start boot x 
 -- What they are of: the program's version, the layout and the rules; the images, or of a flash its digest, as cursors have it; what is
 -- expected of the slots; and the schedule.
 
-unfoldable pub sizes_text : Geometry → List ℕ
-sizes_text g = codes "layout --sector " ++ (decimal g.sector ++ (codes " --unit " ++ (decimal g.unit ++ (codes " --max-sectors " ++ decimal g.max_sectors))))
+unfoldable pub sector_options : Geometry → List ℕ
+sector_options g = codes "layout --sector " ++ (decimal g.sector ++ (codes " --unit " ++ (decimal g.unit ++ (codes " --max-sectors " ++ decimal g.max_sectors))))
 
-unfoldable pub slots_text : Geometry → List ℕ
-slots_text g = codes " --chunk " ++ (decimal g.chunk ++ (codes " --primary " ++ (decimal g.primary ++ (codes " --secondary " ++ (decimal g.secondary ++ codes "\n")))))
+unfoldable pub slot_options : Geometry → List ℕ
+slot_options g = codes " --chunk " ++ (decimal g.chunk ++ (codes " --primary " ++ (decimal g.primary ++ (codes " --secondary " ++ (decimal g.secondary ++ codes "\n")))))
 
-abbrev pub layout_text : Geometry → List ℕ
-layout_text g = sizes_text g ++ slots_text g
+abbrev pub layout_options : Geometry → List ℕ
+layout_options g = sector_options g ++ slot_options g
 
-abbrev pub rules_text : Rules → List ℕ
-rules_text r = codes "rules --grain " ++ (grain_text r.grain ++ (codes " --profile " ++ (profile_text r.profile ++ codes "\n")))
+abbrev pub rules_options : Rules → List ℕ
+rules_options r = codes "rules --grain " ++ (grain_text r.grain ++ (codes " --profile " ++ (profile_text r.profile ++ codes "\n")))
 
 unfoldable pub board_text : List ℕ → Started → List ℕ
-board_text version s = (codes "mcsim " ++ (version ++ codes "\n")) ++ (layout_text s.geometry ++ rules_text s.rules)
+board_text version s = (codes "mcsim " ++ (version ++ codes "\n")) ++ (layout_options s.geometry ++ rules_options s.rules)
 
 abbrev pub images_by : Option (Identity × Identity) → List ℕ → List ℕ
 images_by None digest = codes "start " ++ (encode_lower digest ++ codes "\n")

@@ -51,13 +51,13 @@ second_of (Some i) None = Some (Primary, i)
 second_of None None = None
 
 -- Where bytes in a sector of a slot come from. Of several sectors of the start that began with them it is the same one of the other slot, or
--- the one before it in its own, since a swap moves these there; else the first of the other slot, else of its own.
-abbrev pub source_of : Geometry → Content → Slot → ℕ → List ℕ → Option (Slot × ℕ)
-source_of g start Primary i bytes =
+-- the one before it in its own (the first sector has itself there), since a swap moves these there; else the first of the other slot, else of its own.
+abbrev pub origin_in : Geometry → Content → Slot → ℕ → List ℕ → Option (Slot × ℕ)
+origin_in g start Primary i bytes =
     if is_like g start.secondary bytes i g.secondary then Some (Secondary, i)
     else if is_like g start.primary bytes (i - 1) g.primary then Some (Primary, i - 1)
     else second_of (first_like g start.primary bytes 0 g.primary) (first_like g start.secondary bytes 0 g.secondary)
-source_of g start Secondary i bytes =
+origin_in g start Secondary i bytes =
     if is_like g start.primary bytes i g.primary then Some (Primary, i)
     else if is_like g start.secondary bytes (i - 1) g.secondary then Some (Secondary, i - 1)
     else origin_of g start bytes
@@ -79,7 +79,7 @@ is_in_trailer g slot i = nat_le (sectors_of g slot - trailer_sectors g) i
 -- began with, and is blank then; or anything else.
 abbrev pub other_cell : Geometry → Content → Slot → ℕ → List ℕ → Cell
 other_cell g start slot i bytes =
-    if is_in_trailer g slot i then cells.Trailer else half_cell (source_of g start slot i (take (used bytes) bytes))
+    if is_in_trailer g slot i then cells.Trailer else half_cell (origin_in g start slot i (take (used bytes) bytes))
 
 abbrev pub held_or : Option (Slot × ℕ) → Cell → Cell
 held_or (Some (slot, i)) rest = cells.Held slot i
@@ -90,7 +90,7 @@ unfoldable pub cell_of : Geometry → Content → Slot → ℕ → List ℕ → 
 cell_of g start slot i bytes =
     if is_blank bytes then cells.Blank
     else if bytes_eq (sector_of g (bytes_of start slot) i) bytes then cells.Held slot i
-    else held_or (source_of g start slot i bytes) (other_cell g start slot i bytes)
+    else held_or (origin_in g start slot i bytes) (other_cell g start slot i bytes)
 
 -- The same where no start is known.
 abbrev pub plain_cell : Geometry → Slot → ℕ → List ℕ → Cell

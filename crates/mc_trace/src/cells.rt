@@ -1,7 +1,7 @@
 //! What lies in a sector of a flash.
 ghost use Rattle.std.specs.Prelude.{◌≡◌, ◌<◌, ◌≤◌, ◌+◌, ◌++◌, bytes_eq, decimal, length};
 ghost use Rattle.mc_flash.specs.Flash.{bytes_of, sectors_of, size_of};
-ghost use Rattle.mc_trace.specs.Sectors.{cell_of, cell_word, first_like, is_in_trailer, is_like, letter, origin_of, other_cell, plain_cell, second_of, sector_of, source_of, used};
+ghost use Rattle.mc_trace.specs.Sectors.{cell_of, cell_word, first_like, is_in_trailer, is_like, letter, origin_of, other_cell, plain_cell, second_of, sector_of, origin_in, used};
 
 use mc_explore::Start;
 use mc_flash::{Layout, Slot, blank};
@@ -101,10 +101,10 @@ fn second_origin_of(start: &Start, wanted: &[u8]) -> Option<(Slot, u32)>
 }
 
 // The sector of the start from which bytes in a sector of the primary come.
-fn source_in_primary(start: &Start, sector: u32, wanted: &[u8]) -> Option<(Slot, u32)>
+fn origin_in_primary(start: &Start, sector: u32, wanted: &[u8]) -> Option<(Slot, u32)>
     requires { length wanted.now ≤ start.now.geometry.sector }
     ensures { result
-        ≡ source_of start.now.geometry start.now.content Slot.Primary sector wanted.now }
+        ≡ origin_in start.now.geometry start.now.content Slot.Primary sector wanted.now }
 {
     let (layout, before) = (start.layout(), sector.saturating_sub(1));
     if is_like(layout, Slot::Secondary, start.secondary(), sector, wanted) {
@@ -117,10 +117,10 @@ fn source_in_primary(start: &Start, sector: u32, wanted: &[u8]) -> Option<(Slot,
 }
 
 // The sector of the start from which bytes in a sector of the secondary come.
-fn source_in_secondary(start: &Start, sector: u32, wanted: &[u8]) -> Option<(Slot, u32)>
+fn origin_in_secondary(start: &Start, sector: u32, wanted: &[u8]) -> Option<(Slot, u32)>
     requires { length wanted.now ≤ start.now.geometry.sector }
     ensures { result
-        ≡ source_of start.now.geometry start.now.content Slot.Secondary sector wanted.now }
+        ≡ origin_in start.now.geometry start.now.content Slot.Secondary sector wanted.now }
 {
     let (layout, before) = (start.layout(), sector.saturating_sub(1));
     if is_like(layout, Slot::Primary, start.primary(), sector, wanted) {
@@ -133,13 +133,13 @@ fn source_in_secondary(start: &Start, sector: u32, wanted: &[u8]) -> Option<(Slo
 }
 
 // The sector of the start from which bytes in a sector of a slot come.
-fn source_of(start: &Start, at: (Slot, u32), wanted: &[u8]) -> Option<(Slot, u32)>
+fn origin_in(start: &Start, at: (Slot, u32), wanted: &[u8]) -> Option<(Slot, u32)>
     requires { length wanted.now ≤ start.now.geometry.sector }
-    ensures { result ≡ source_of start.now.geometry start.now.content at.0 at.1 wanted.now }
+    ensures { result ≡ origin_in start.now.geometry start.now.content at.0 at.1 wanted.now }
 {
     match at.0 {
-        Slot::Primary => source_in_primary(start, at.1, wanted),
-        Slot::Secondary => source_in_secondary(start, at.1, wanted),
+        Slot::Primary => origin_in_primary(start, at.1, wanted),
+        Slot::Secondary => origin_in_secondary(start, at.1, wanted),
     }
 }
 
@@ -187,7 +187,7 @@ fn other_cell(start: &Start, at: (Slot, u32), bytes: &[u8]) -> Cell
     if is_in_trailer(start.layout(), at.0, at.1) {
         return Cell::Trailer;
     }
-    match source_of(start, at, &bytes[..used(bytes)]) {
+    match origin_in(start, at, &bytes[..used(bytes)]) {
         Some((slot, sector)) => Cell::Half(slot, sector),
         None => Cell::Other,
     }
@@ -206,7 +206,7 @@ pub fn cell_of(start: &Start, at: (Slot, u32), bytes: &[u8]) -> Cell
     if is_as_before(start, at, bytes) {
         return Cell::Held(at.0, at.1);
     }
-    match source_of(start, at, bytes) {
+    match origin_in(start, at, bytes) {
         Some((slot, sector)) => Cell::Held(slot, sector),
         None => other_cell(start, at, bytes),
     }

@@ -1,12 +1,14 @@
 //! A frame: an operation of a boot, the flash before it, and what a cut there comes to.
 ghost use Rattle.std.specs.Prelude.{◌≡◌, ◌+◌, ◌≤◌, ◌++◌, length};
 ghost use Rattle.mc_boot.specs.Outcome.{shown};
-ghost use Rattle.mc_trace.specs.Frames.{between_slots, cut_class, cut_text, erase_class, fields_begin, fields_end, first_fields, flash_cells, frame_begin, frame_end, frame_text, framed_in, is_erase, report_text, row_begin, row_end, sector_text, sign_class, sign_of, sign_text, target_in, target_of};
+ghost use Rattle.mc_trace.specs.Frames.{between_slots, cut_class, cut_text, erase_class, fields_begin, fields_end, first_fields, flash_cells, frame_begin, frame_end, frame_text, framed_in, report_text, row_begin, row_end, sign_class, sign_of, sign_text, target_in, target_of, target_text};
 ghost use Rattle.mc_trace.specs.inner.Boots.{WritesText};
 ghost use Rattle.mc_trace.specs.inner.Walking.{shown_frame};
 ghost use Rattle.mc_trace.specs.Trace.{operation_text};
+ghost use Rattle.mc_trace.specs.Wear.{is_erase};
 
 use crate::operation::put_operation;
+use crate::patch::put_sector;
 use crate::slot_cells::write_cells;
 use crate::trace::Span;
 use crate::verdict::is_boot;
@@ -175,17 +177,6 @@ fn put_report(line: &mut Line, outcome: &Outcome)
     put_slots(line, outcome, &Labels::none());
 }
 
-// Adds a sector of a slot to a line.
-fn put_sector(line: &mut Line, sector: (Slot, u32))
-    requires { length line.old + 20 ≤ MOST_LINE }
-    ensures text { line.new ≡ line.old ++ sector_text sector }
-    ensures length { length line.new ≤ length line.old + 20 }
-{
-    line.put(sector.0.name());
-    line.put(" ");
-    line.put_number(sector.1);
-}
-
 impl Frame {
     // Its first three fields, with a tab after each.
     fn first_fields(&self) -> Line
@@ -209,7 +200,8 @@ impl Frame {
         let mut line = self.first_fields();
         put_operation(&mut line, layout, self.op);
         line.put("\t");
-        put_sector(&mut line, target_of(layout, self.op));
+        let (slot, sector) = target_of(layout, self.op);
+        put_sector(&mut line, slot, sector);
         line.put("\t");
         line
     }

@@ -72,7 +72,7 @@ fn write_all<F: Flash, W: Write>(
 
 /// Writes the frames of a schedule: what they are of; then for each boot its number, its type and how many operations it makes uncut, and a
 /// line for each of its operations up to the cut that lies in a span, with the words of both slots before it, what a cut there comes to, and
-/// whether that is right; and the outcome of the last boot. It loads a flash as an explorer does, and takes no memory for the text.
+/// whether that is right; and the outcome of the last boot. It loads a flash as an explorer does, and takes no memory for the text. The version has at most 40 bytes.
 /// Promised: the frames of a schedule (`written`, `prefix`, `refused`, `occurs`, `cause`).
 ///
 /// # Errors

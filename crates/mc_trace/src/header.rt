@@ -1,7 +1,7 @@
 //! What frames are of: the program, the board, the images, what is expected, and the schedule.
 ghost use Rattle.std.specs.Prelude.{◌≡◌, ◌+◌, ◌≤◌, ◌++◌, length};
 ghost use Rattle.mc_trace.specs.inner.Boots.{WritesText};
-ghost use Rattle.mc_trace.specs.Frames.{board_text, expectation_text, header_text, images_text, rules_text, schedule_line, sizes_text, slots_text, wanted_text};
+ghost use Rattle.mc_trace.specs.Frames.{board_text, expectation_text, header_text, images_text, rules_options, schedule_line, sector_options, slot_options, wanted_text};
 
 use mc_explore::{Expectation, Schedule, Start, Wanted};
 use mc_flash::{Layout, Slot};
@@ -13,9 +13,9 @@ use std::io::Write;
 pub const NAMES: &str = "boot\tnumber\tcut\toperation\tsector\tprimary\tsecondary\toutcome\tends\n";
 
 // Adds the first options of a layout to a line.
-fn put_sizes(line: &mut Line, layout: &Layout)
+fn put_sector_options(line: &mut Line, layout: &Layout)
     requires { length line.old + 70 ≤ MOST_LINE }
-    ensures text { line.new ≡ line.old ++ sizes_text layout.now }
+    ensures text { line.new ≡ line.old ++ sector_options layout.now }
     ensures length { length line.new ≤ length line.old + 70 }
 {
     line.put("layout --sector ");
@@ -27,9 +27,9 @@ fn put_sizes(line: &mut Line, layout: &Layout)
 }
 
 // Adds its other options to a line.
-fn put_slots(line: &mut Line, layout: &Layout)
+fn put_slot_options(line: &mut Line, layout: &Layout)
     requires { length line.old + 70 ≤ MOST_LINE }
-    ensures text { line.new ≡ line.old ++ slots_text layout.now }
+    ensures text { line.new ≡ line.old ++ slot_options layout.now }
     ensures length { length line.new ≤ length line.old + 70 }
 {
     line.put(" --chunk ");
@@ -44,7 +44,7 @@ fn put_slots(line: &mut Line, layout: &Layout)
 // Adds the options of rules to a line.
 fn put_rules(line: &mut Line, rules: Rules)
     requires { length line.old + 40 ≤ MOST_LINE }
-    ensures text { line.new ≡ line.old ++ rules_text rules }
+    ensures text { line.new ≡ line.old ++ rules_options rules }
     ensures length { length line.new ≤ length line.old + 40 }
 {
     line.put("rules --grain ");
@@ -63,8 +63,8 @@ fn board_line(version: &str, start: &Start) -> Line
     line.put("mcsim ");
     line.put(version);
     line.put("\n");
-    put_sizes(&mut line, start.layout());
-    put_slots(&mut line, start.layout());
+    put_sector_options(&mut line, start.layout());
+    put_slot_options(&mut line, start.layout());
     put_rules(&mut line, start.rules());
     line
 }
@@ -118,7 +118,7 @@ fn expectation_line(expectation: &Expectation) -> Line
 }
 
 // The schedule.
-fn schedule_text(schedule: &Schedule) -> Line
+fn schedule_line(schedule: &Schedule) -> Line
     ensures { result ≡ schedule_line schedule.now }
 {
     let mut line = Line::new();
@@ -147,5 +147,5 @@ pub fn write_header<W: Write>(
     write_line(writer, &board_line(version, start))?;
     write_line(writer, &images_line(start))?;
     write_line(writer, &expectation_line(expectation))?;
-    write_line(writer, &schedule_text(schedule))
+    write_line(writer, &schedule_line(schedule))
 }

@@ -16,8 +16,8 @@ use std::io::Write;
 // The most bytes whose hexadecimal digits are written at once.
 const MOST_BYTES: usize = 128;
 
-// Adds a sector to a line: at most 20 bytes.
-fn put_sector(line: &mut Line, slot: Slot, sector: u32)
+/// Adds a sector to a line: at most 20 bytes.
+pub(crate) fn put_sector(line: &mut Line, slot: Slot, sector: u32)
     requires { length line.old + 20 ≤ MOST_LINE }
     ensures text { line.new ≡ line.old ++ sector_text slot sector }
     ensures length { length line.new ≤ length line.old + 20 }

@@ -137,7 +137,7 @@ fn write_page<F: Flash, W: Write>(
 /// Writes a page that a browser shows: what all schedules of at most 16 cuts come to, and how many of them are right; what the page is of;
 /// then for each boot of a schedule a row for each of its operations up to the cut that lies in a span, with the flash before it, sector by
 /// sector, what a cut there comes to, and whether that is right; and the outcome of the last boot. It loads a flash as an explorer does, and
-/// takes no memory for the text.
+/// takes no memory for the text. The version has at most 40 bytes.
 /// Promised: a schedule's page (`drawn`, `begun`, `refused`, `occurs`, `cause`, `IsPicture`).
 ///
 /// # Errors

@@ -29,7 +29,7 @@ returns g c =
     let board = rw c.board_line.ensures at c.in_ok-write_line.ensures.whole in
     let images = rw c.images_line.ensures at c.in_ok-write_line-2.ensures.whole in
     let expected = rw c.expectation_line.ensures at c.in_ok-write_line-3.ensures.whole in
-    let last = rw c.schedule_text.ensures at c.write_line-4.ensures in
+    let last = rw c.schedule_line.ensures at c.write_line-4.ensures in
     writes_then _ _ _ (board_text c.args.version.now c.args.start.now) _ c.write_line-4.result board
     (writes_then _ _ _ (images_text c.args.start.now) _ c.write_line-4.result images
     (writes_then _ _ _ (expectation_text c.args.expectation.now) (schedule_line c.args.schedule.now) c.write_line-4.result expected (written c.write_line-4.result _ _ _ last.whole last.prefix)))

@@ -1,9 +1,9 @@
 use Rattle.std.proofs.Common.{append_assoc}
-use Rattle.mc_trace.specs.Frames.{sizes_text}
-use Rattle.mc_trace.proofs.header.put_sizes.Goals as goal
+use Rattle.mc_trace.specs.Frames.{sector_options}
+use Rattle.mc_trace.proofs.header.put_sector_options.Goals as goal
 
 pub returns-clause-text : goal.returns-clause-text
-unfolding sizes_text
+unfolding sector_options
 returns-clause-text c =
     rw (
       c.put_number-3.ensures.text,

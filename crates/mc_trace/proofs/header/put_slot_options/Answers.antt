@@ -1,9 +1,9 @@
 use Rattle.std.proofs.Common.{append_assoc}
-use Rattle.mc_trace.specs.Frames.{slots_text}
-use Rattle.mc_trace.proofs.header.put_slots.Goals as goal
+use Rattle.mc_trace.specs.Frames.{slot_options}
+use Rattle.mc_trace.proofs.header.put_slot_options.Goals as goal
 
 pub returns-clause-text : goal.returns-clause-text
-unfolding slots_text
+unfolding slot_options
 returns-clause-text c =
     rw (
       c.put-4.ensures.text,
