@@ -12,14 +12,14 @@ const SLOTS = ["primary", "secondary"];
 
 const px = number => Math.round(number * 100) / 100;
 const box = (kind, x, y, width, height) => drawn("rect", { class: kind, x: px(x), y: px(y), width: px(width), height: px(height) });
-const said = (kind, x, y, text) => drawn("text", { class: kind, x: px(x), y: px(y) }, text);
+const label = (kind, x, y, text) => drawn("text", { class: kind, x: px(x), y: px(y) }, text);
 
 const room_of = text => LETTER * text.length + 4;
 
 // A box, with a text in it where it has room: in its middle, or in that of its beginning.
-function told_box(kind, x, y, width, height, text, place = width) {
+function labelled_box(kind, x, y, width, height, text, place = width) {
   const has_room = text && width >= room_of(text) && height > 9;
-  return [box(kind, x, y, width, height), ...(has_room ? [said(kind, x + Math.min(width, place) / 2, y + height / 2, text)] : [])];
+  return [box(kind, x, y, width, height), ...(has_room ? [label(kind, x + Math.min(width, place) / 2, y + height / 2, text)] : [])];
 }
 
 // The stripes of all maps, by the names of their colours.
@@ -94,8 +94,8 @@ export class BootMap {
     const tears = shows_tears ? [["a tear here", "", top.tears + ENDS / 2]] : [];
     const short = margin < 40, rows = [["a cut here", "", ENDS / 2], ...tears, ["operation", "", middle],
       ["primary", "P", top.primary + (primary * high) / 2], ["secondary", "S", top.secondary + (secondary * high) / 2]];
-    const waits = frames ? [] : [said("waits", margin + 6, middle, "asking the program")];
-    return [...rows.map(([long, letter, y]) => said("name", margin - 8, y, short ? letter : long)), ...waits];
+    const waits = frames ? [] : [label("waits", margin + 6, middle, "asking the program")];
+    return [...rows.map(([long, letter, y]) => label("name", margin - 8, y, short ? letter : long)), ...waits];
   }
 
   // What a cut before each operation comes to; what is not right comes last, and is wide enough to be seen.
@@ -108,14 +108,14 @@ export class BootMap {
   // A mark of operations in one of the strips.
   end(kind, from, to, top) {
     const { x, wide } = this.at, width = Math.max(x(to) - x(from), LEAST);
-    return told_box(kind, Math.min(x(from), wide - width), top, width, ENDS - 1, MARKS[kind]);
+    return labelled_box(kind, Math.min(x(from), wide - width), top, width, ENDS - 1, MARKS[kind]);
   }
 
   // What a tear in each operation comes to at worst, where that is not as a cut.
   tears() {
     const { top, margin, wide } = this.at, { torn, view } = this.boot;
     const under = [box("blank", margin, top.tears, wide - margin, ENDS - 1), box("edge", margin + 0.5, top.tears + 0.5, wide - margin - 1, ENDS - 2)];
-    if (!torn) return [...under, said("waits", margin + 6, top.tears + ENDS / 2, "asking the program")];
+    if (!torn) return [...under, label("waits", margin + 6, top.tears + ENDS / 2, "asking the program")];
     const seen = [...torn].map(([number, kind]) => [number - view.from, kind]).filter(([i]) => i >= 0 && i < view.to - view.from);
     return [...under, ...seen.flatMap(([i, kind]) => this.end(kind, i, i + 1, top.tears))];
   }
@@ -125,7 +125,7 @@ export class BootMap {
     const { x, top, column } = this.at, { frames } = this.boot, gap = column > 5 ? 1 : 0;
     return runs_of(frames, frame => (gap ? frame : frame.what)).flatMap(({ from, to }) => {
       const { what } = frames[from];
-      return told_box(what, x(from), top.operations, x(to) - x(from) - gap, OPERATIONS, LETTERS[what]);
+      return labelled_box(what, x(from), top.operations, x(to) - x(from) - gap, OPERATIONS, LETTERS[what]);
     });
   }
 
@@ -137,7 +137,7 @@ export class BootMap {
       return moments[0].value.flatMap((_, sector) => runs_of(moments, ({ value }) => value[sector]).flatMap(run => {
         const left = x(moments[run.from].from), wide = x(moments[run.to - 1].to) - left - between, word = run.value === "-" ? "" : run.value;
         const place = column >= room_of(word) ? column : WORD;
-        return told_box(class_of(run.value), left, top[slot] + sector * high, wide, high - gap, word, place);
+        return labelled_box(class_of(run.value), left, top[slot] + sector * high, wide, high - gap, word, place);
       }));
     });
   }

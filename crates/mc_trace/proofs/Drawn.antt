@@ -4,7 +4,7 @@ use Rattle.std.proofs.Common.{ap, inr, refl}
 use Rattle.mc_boot.specs.{Plan.{PowerOn}}
 use Rattle.mc_explore.specs.{Schedules.{CanOccur}, declared.expectation.Expectation.{Expectation}}
 use Rattle.mc_start.specs.Start.{Started, begun}
-use Rattle.mc_trace.specs.{Picture.{BeginsPicture, Draws, IsPicture, IsVerdict, page_by, page_look}, Sectors.{RefusesPicture}, Trace.{RefusesTrace}}
+use Rattle.mc_trace.specs.{Picture.{BeginsPicture, Draws, IsPicture, IsVerdict, page_by, page_look}, Sectors.{RefusesWalk}, Trace.{RefusesTrace}}
 use Rattle.mc_trace.specs.declared.error.TraceError.{TraceError}
 use Rattle.mc_trace.specs.declared.error.TraceError.TheVariants as errors
 use Rattle.mc_trace.specs.{declared.picture.Verdict.{Verdict}, declared.frame.Look.{Look}, declared.trace.Span.{Span}, inner.Boots.{WritesText}}
@@ -33,7 +33,7 @@ refused start cuts old new (Ok _) err = tt
 refused start cuts old new (Err e) err = no_refusal start cuts old new e err
 
 -- What refuses a walk refuses what would be written, and nothing is.
-pub refused_walk : {W : Type 0} (start : PowerOn) (cuts : List ℕ) (writer : W) (e : TraceError) → RefusesPicture start cuts e → RefusesTrace start cuts writer writer e
+pub refused_walk : {W : Type 0} (start : PowerOn) (cuts : List ℕ) (writer : W) (e : TraceError) → RefusesWalk start cuts e → RefusesTrace start cuts writer writer e
 refused_walk start cuts writer (errors.CannotOccur index) why = (why, refl)
 refused_walk start cuts writer errors.Memory why = tt
 refused_walk start cuts writer errors.Write why = tt

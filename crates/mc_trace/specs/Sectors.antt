@@ -139,16 +139,16 @@ IsAt moments.AtEnd x cuts z = (u : Content) × (after x cuts ≡ Some u) × (lef
 
 -- What a picture of a flash leaves of a writer.
 
--- Why there is none: from that cut on the schedule can't occur, or an allocation failed.
-abbrev pub RefusesPicture : PowerOn → List ℕ → TraceError → Type 0
-RefusesPicture x cuts (errors.CannotOccur index) = CannotOccurAt x cuts index
-RefusesPicture x cuts errors.Memory = ⊤
-RefusesPicture x cuts errors.Write = ⊥
+-- Why nothing is made of a schedule: from that cut on it can't occur, or an allocation failed.
+abbrev pub RefusesWalk : PowerOn → List ℕ → TraceError → Type 0
+RefusesWalk x cuts (errors.CannotOccur index) = CannotOccurAt x cuts index
+RefusesWalk x cuts errors.Memory = ⊤
+RefusesWalk x cuts errors.Write = ⊥
 
 -- The picture of that flash is made, or there is none.
 abbrev pub PicturesAs : {A : Type 0} → View → PowerOn → List ℕ → (A → List ℕ) → Result A TraceError → Type 0
 PicturesAs v x cuts text (Ok made) = (u : Content) × IsAt v.moment x cuts u × (text made ≡ picture v.words x.geometry x.content u)
-PicturesAs v x cuts text (Err e) = RefusesPicture x cuts e
+PicturesAs v x cuts text (Err e) = RefusesWalk x cuts e
 
 -- It is out, or a beginning of it where a write failed; else nothing is written.
 abbrev pub Pictures : {A : Type 0} → View → PowerOn → List ℕ → Option (List ℕ) → Option (List ℕ) → Result A TraceError → Type 0

@@ -7,7 +7,7 @@ ghost use Rattle.mc_start.specs.Start.{begun};
 ghost use Rattle.mc_trace.specs.inner.Boots.{WritesText};
 ghost use Rattle.mc_trace.specs.inner.Walking.{IsReady};
 ghost use Rattle.mc_trace.specs.Frames.{frames_by, frames_text};
-ghost use Rattle.mc_trace.specs.Sectors.{RefusesPicture};
+ghost use Rattle.mc_trace.specs.Sectors.{RefusesWalk};
 ghost use Rattle.mc_trace.specs.Trace.{RefusesTrace};
 
 use crate::error::TraceError;
@@ -38,7 +38,7 @@ pub(crate) fn walk_along<'a, F: Flash + Drop>(
     ensures counted { IfOk result (λ walk. F.counted ≡ true
         → walk.seen.usage.limits.counted ≡ true) }
     ensures occurs { OnOk result (CanOccur (begun start.now) schedule.now) }
-    ensures refused { IfErr result (RefusesPicture (begun start.now) schedule.now) }
+    ensures refused { IfErr result (RefusesWalk (begun start.now) schedule.now) }
 {
     let _ = replay::<F>(alloc, start, schedule)?;
     let boots = schedule.cuts().len() as u8 + 1;

@@ -2,7 +2,7 @@
 ghost use Rattle.std.specs.Prelude.{◌≡◌, ◌<◌, ◌++◌, codes, length, IfErr, IfOk, OnOk, string_bytes};
 ghost use Rattle.mc_flash.specs.Flash.{sectors_of, size_of};
 ghost use Rattle.mc_start.specs.Start.{begun};
-ghost use Rattle.mc_trace.specs.Sectors.{IsAt, Pictures, PicturesAs, RefusesPicture, line_of, sector_word};
+ghost use Rattle.mc_trace.specs.Sectors.{IsAt, Pictures, PicturesAs, RefusesWalk, line_of, sector_word};
 
 use crate::cells::{Words, cell_of, sector_of};
 use crate::error::TraceError;
@@ -78,7 +78,7 @@ fn flash_at<F: Flash>(
     ensures at { IfOk result (λ flash. IsAt moment (begun start.now) schedule.now
         (F.seen flash).content) }
     ensures layout { IfOk result (λ flash. (F.seen flash).geometry ≡ start.now.geometry) }
-    ensures refused { IfErr result (RefusesPicture (begun start.now) schedule.now) }
+    ensures refused { IfErr result (RefusesWalk (begun start.now) schedule.now) }
 {
     let flash = match moment {
         Moment::AtCut => flash_at_cut::<F>(alloc, start, schedule)?,
