@@ -8,7 +8,9 @@ use Rattle.mc_flash.specs.{Flash.{CanTry, Content, IsSized, apply}, Usage.{Check
 use Rattle.mc_flash.specs.{declared.op.Op.{Op}, facts.Spends.{spent_back, stays_back}}
 use Rattle.mc_tear.proofs.Ranges.{range_of}
 use Rattle.mc_tear.specs.{Cases.{slot_of, written_len}, inner.Room.{Applies}}
-use Rattle.mc_tears.specs.{declared.cases.Between.{Between}, inner.Standing.{CanMark, Goes, HoldsSlot, IsBack, Stands, StandsBefore, case_counts}}
+use Rattle.mc_tears.proofs.Ending.{first_end, none_made, whole_end}
+use Rattle.mc_tears.specs.{Ends.{shown_end}, Tears.{cut_end}, declared.cases.Between.{Between}, declared.end.Whole.{Whole}, declared.tears.Here.{Here}}
+use Rattle.mc_tears.specs.inner.Standing.{CanMark, Goes, GoesOn, HoldsSlot, IsBack, IsHere, IsWhole, Stands, StandsBefore, case_counts}
 use Rattle.mc_tears.specs.declared.error.TearError.{TearError}
 use Rattle.mc_walk.specs.TreeModel.{IsAt}
 use Rattle.mc_tears.specs.declared.error.TearError.TheVariants as errors
@@ -92,10 +94,6 @@ back_is old mid end m keeps limits = record { stays = stays_back old mid end m k
 pub back_keeps : (f h : Seen) → IsBack f h → Keeps f h
 back_keeps f h back = record { geometry = back.stays.geometry; checkpoints = back.stays.checkpoints }
 
-pub goes_memory : (old new : Seen) (e : TearError) → Goes {A = Bool} old (Err e) new → e ≡ errors.Memory → old.usage.limits.counted ≡ false
-goes_memory old new errors.Memory goes is = goes
-goes_memory old new errors.Write goes is = absurd cc
-
 -- A checkpoint takes the room of one.
 pub marks_after : (k : ℕ) (old now : Seen) → Keeps (marked old) now → now.usage.limits ≡ old.usage.limits → CanMark (k + 1) old → CanMark k now
 marks_after k old now keeps limits room =
@@ -176,3 +174,22 @@ module _ (x : PowerOn) (at : Boot) (f : Seen) (s : Stands x at f) where
           },
           count,
         )
+
+-- A boot that begins there; and one that could not go on.
+module _ (x : PowerOn) (whole : Whole) (is : IsWhole x whole) (f : Seen) where
+  pub begins_here : (here : Here) → here ≡ record { at = whole.summary.boot; before = record { outcome = whole.summary.outcome; busy = whole.busy } }
+      → Stands x whole.summary.boot f → CanMark 2 f → IsHere x here f × (here.at.done ≡ 0)
+  begins_here here made stands marks =
+      let none = none_made x whole.summary is.summary in
+      let before : shown_end (record { outcome = whole.summary.outcome; busy = whole.busy }) ≡ cut_end x whole.summary.boot.done =
+      whole_end x whole is ∙ first_end x ∙ ap (cut_end x) (sym none) in
+      rw made (record { stands = stands; before = before; marks = marks }, none)
+
+pub steps_memory : (x : PowerOn) (old : Here) (f : Seen) (new : Here) (h : Seen) (e : TearError) → GoesOn {A = Bool} x old f (Err e) new h → e ≡ errors.Memory → f.usage.limits.counted ≡ false
+steps_memory x old f new h errors.Memory goes is = goes
+steps_memory x old f new h errors.Write goes is = absurd cc
+
+pub stops_on : (x : PowerOn) (old : Here) (f k : Seen) → k.usage.limits ≡ f.usage.limits → (m : Seen) (new : Here) (h : Seen) (e : TearError) → Goes {A = Bool} k (Err e) m
+    → GoesOn {A = Bool} x old f (Err e) new h
+stops_on x old f k limits m new h errors.Memory goes = ap (λ (l : Limits). l.counted) (sym limits) ∙ goes
+stops_on x old f k limits m new h errors.Write goes = tt

@@ -99,19 +99,17 @@ module _ (a : Asked) (x : PowerOn) where
           let o = out_more before before mid (head ++ lines_text a x) head (lines_text a x) (out_begun before (head ++ lines_text a x)) p in
           out_prefix before mid new (head ++ lines_text a x) (lines_text a x) [] (rw (append-nil (lines_text a x)) o) q
 
-  module _ (n : ℕ) (op : Op) (is : slice_get (ops_of x) n ≡ Some op) where
+  module _ (n : ℕ) where
     pub lines_next : (before mid : Option (List ℕ)) → n < count → IsOut before mid (lines_text a x) (flat_map (number_text a x) (up_to count n))
-        → IsOut before mid (lines_text a x) (op_text a x n (Some op) ++ flat_map (number_text a x) (up_to count (n + 1)))
-    lines_next before mid early out =
-        subst (IsOut before mid (lines_text a x))
-        (ap (flat_map (number_text a x)) (up_to_next count n early) ∙ ap (λ (t : List ℕ). t ++ flat_map (number_text a x) (up_to count (n + 1))) (text_there x n op is a)) out
+        → IsOut before mid (lines_text a x) (number_text a x n ++ flat_map (number_text a x) (up_to count (n + 1)))
+    lines_next before mid early out = subst (IsOut before mid (lines_text a x)) (ap (flat_map (number_text a x)) (up_to_next count n early)) out
 
-    pub lines_step : (before here : Bool) → n < count → here ≡ op_right a x n (Some op)
+    pub lines_step : (before here : Bool) → n < count → here ≡ number_right a x n
         → ((before && here) && list_all (number_right a x) (up_to count (n + 1))) ≡ (before && list_all (number_right a x) (up_to count n))
     lines_step before here early right =
         let rest = list_all (number_right a x) (up_to count (n + 1)) in
         and_then before here rest
-        ∙ ap (λ (z : Bool). before && (z && rest)) (right ∙ sym (right_there x n op is a))
+        ∙ ap (λ (z : Bool). before && (z && rest)) right
         ∙ ap (λ (z : Bool). before && z) (sym (ap (list_all (number_right a x)) (up_to_next count n early)))
 
 module _ (x : PowerOn) (b : Between) (f : Seen) (s : StandsBefore x b f) where

@@ -10,9 +10,9 @@ ghost use Rattle.mc_output.specs.Text.{AppendsPrefix};
 ghost use Rattle.mc_start.specs.Start.{begun};
 ghost use Rattle.mc_tear.specs.inner.Room.{Applies};
 ghost use Rattle.mc_tears.specs.Ends.{shown_end};
-ghost use Rattle.mc_tears.specs.Tears.{all_right, counts_text, cut_end, lines_text, number_count, numbers, tears_text};
+ghost use Rattle.mc_tears.specs.Tears.{all_right, counts_text, cut_end, lines_text, number_count, number_right, number_text, numbers, tears_text};
 ghost use Rattle.mc_tears.specs.declared.error.TearError.TheVariants as errors;
-ghost use Rattle.mc_tears.specs.inner.Standing.{CanMark, HoldsSlot, IsWhole, LeavesBytes, Returns, Stands, WritesText};
+ghost use Rattle.mc_tears.specs.inner.Standing.{CanMark, GoesOn, HoldsSlot, IsHere, IsWhole, LeavesBytes, Returns, Stands, WritesText};
 
 use crate::cases::{Asked, Between, count_cases, write_cases};
 use crate::end::{End, Whole, run_and_return};
@@ -122,6 +122,67 @@ fn end_after<F: Flash>(
     Ok(end)
 }
 
+/// Where a boot has come to, and how it ends after a power cut there.
+#[derive(Clone, Copy)]
+pub(crate) struct Here {
+    pub at: Boot,
+    pub before: End,
+}
+
+impl Whole {
+    /// Where it begins.
+    pub fn begin(&self) -> Here
+        ensures { result ≡ record {
+          at = self.now.summary.boot;
+          before = record {
+            outcome = self.now.summary.outcome;
+            busy = self.now.busy;
+          };
+        } }
+    {
+        Here {
+            at: self.summary.boot,
+            before: self.end(),
+        }
+    }
+}
+
+/// Writes the lines of the cases of the next operation that are told, and goes on behind it; whether each of its cases is right.
+pub(crate) fn write_next<F: Flash, W: Write>(
+    rounds: &OneRound<'_>,
+    flash: &mut F,
+    whole: &Whole,
+    here: &mut Here,
+    asked: &Asked,
+    buffer: &mut Vec<u8>,
+    writer: &mut W,
+) -> Result<bool, TearError>
+    requires whole { IsWhole (begins rounds.now) whole.now }
+    requires here { IsHere (begins rounds.now) here.old (F.seen flash.old) }
+    requires early { here.old.at.done < length (ops_of (begins rounds.now)) }
+    requires buffer { HoldsSlot (F.seen flash.old).geometry (vec_capacity buffer.old) }
+    ensures written { WritesText result (W.contents writer.old) (W.contents writer.new)
+        (number_text asked.now (begins rounds.now) here.old.at.done) }
+    ensures right { IfOk result (λ right. right ≡ number_right asked.now (begins rounds.now)
+        here.old.at.done) }
+    ensures steps { GoesOn (begins rounds.now) here.old (F.seen flash.old) result here.new
+        (F.seen flash.new) }
+    ensures capacity { vec_capacity buffer.new ≡ vec_capacity buffer.old }
+{
+    let op = next_op(rounds, flash, &here.at);
+    let after = end_after(rounds, flash, &here.at, whole)?;
+    let between = Between {
+        number: here.at.count(),
+        op,
+        before: here.before,
+        after,
+    };
+    let right = write_cases(rounds, flash, &between, asked, buffer, writer)?;
+    rounds.pass(flash, &mut here.at)?;
+    here.before = after;
+    Ok(right)
+}
+
 // Writes the lines of the cases that are told; whether each case is right.
 fn write_all<F: Flash, W: Write>(
     rounds: &OneRound<'_>,
@@ -141,21 +202,10 @@ fn write_all<F: Flash, W: Write>(
     ensures cause { IsErrOf result errors.Memory
         → (F.seen flash.old).usage.limits.counted ≡ false }
 {
-    let mut at = whole.summary.boot;
-    let mut before = whole.end();
+    let mut here = whole.begin();
     let mut right = true;
-    for number in 0..whole.summary.outcome.ops {
-        let op = next_op(rounds, flash, &at);
-        let after = end_after(rounds, flash, &at, whole)?;
-        let between = Between {
-            number,
-            op,
-            before,
-            after,
-        };
-        right &= write_cases(rounds, flash, &between, asked, buffer, writer)?;
-        rounds.pass(flash, &mut at)?;
-        before = after;
+    for _number in 0..whole.summary.outcome.ops {
+        right &= write_next(rounds, flash, whole, &mut here, asked, buffer, writer)?;
     }
     Ok(right)
 }

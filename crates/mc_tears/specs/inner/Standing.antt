@@ -9,7 +9,7 @@ use Rattle.mc_output.specs.Text.{AppendsPrefix}
 use Rattle.mc_tear.specs.{Cases.{is_case, torn}, declared.reading.Reading.{Reading}, declared.torn.Erasing.{Erasing}, inner.Room.{Applies, tear_counts}}
 use Rattle.mc_tears.specs.Ends.{end_of, ends_right, is_busy, left_of as left, shown_end}
 use Rattle.mc_tears.specs.Tears.{case_end, case_text, cut_end}
-use Rattle.mc_tears.specs.{declared.cases.Asked.{Asked}, declared.cases.Between.{Between}, declared.end.End.{End}, declared.end.Whole.{Whole}, declared.error.TearError.{TearError}}
+use Rattle.mc_tears.specs.{declared.cases.Asked.{Asked}, declared.cases.Between.{Between}, declared.end.End.{End}, declared.end.Whole.{Whole}, declared.error.TearError.{TearError}, declared.tears.Here.{Here}}
 use Rattle.mc_tears.specs.declared.error.TearError.TheVariants as errors
 use Rattle.mc_walk.specs.TreeModel.{IsAt}
 
@@ -113,3 +113,15 @@ pub record DifferFirst (xs ys : List ℕ) : Type 0 where
   pub some : 0 < length xs
   pub rest : drop 1 xs ≡ drop 1 ys
   pub long : length xs ≡ length ys
+
+-- The boot from x has come so far, and this is how it ends after a power cut there. There is room for what it has left, and for a case.
+pub record IsHere (x : PowerOn) (here : Here) (f : Seen) : Type 0 where
+  pub stands : Stands x here.at f
+  pub before : shown_end here.before ≡ cut_end x here.at.done
+  pub marks : CanMark 2 f
+
+-- It has come one operation further, with the same limits; memory fails only a flash that does not count.
+abbrev pub GoesOn : {A : Type 0} → PowerOn → Here → Seen → Result A TearError → Here → Seen → Type 0
+GoesOn x old f (Ok _) new h = IsHere x new h × (new.at.done ≡ old.at.done + 1) × (h.usage.limits ≡ f.usage.limits)
+GoesOn x old f (Err errors.Memory) new h = f.usage.limits.counted ≡ false
+GoesOn x old f (Err errors.Write) new h = ⊤
