@@ -66,7 +66,7 @@ impl Cuts {
 /// # Errors
 ///
 /// `Argument` where `--erase` is given without `--torn`.
-fn torn_option(arguments: &ArgMatches<'_>) -> Result<Option<Erasing>, Refusal>
+pub fn torn_option(arguments: &ArgMatches<'_>) -> Result<Option<Erasing>, Refusal>
     ensures given { IfOk result (GivesTorn (found_of arguments.now)) }
     ensures refused { IfErr result (LacksTorn (found_of arguments.now)) }
 {

@@ -73,6 +73,7 @@ words_of groups.Sectors =
 words_of groups.Picture =
     with_default (codes "-") (option (codes "schedule")) ∷ option (codes "from") ∷ option (codes "to") ∷ option (codes "expect-primary") ∷
     option (codes "expect-secondary") ∷ []
+words_of groups.Torn = flag (codes "torn") ∷ one_of (codes "gentle" ∷ codes "rough" ∷ []) (codes "erase") ∷ []
 words_of groups.Tears =
     with_default (codes "-") (option (codes "schedule")) ∷
     with_default (codes "gentle") (one_of (codes "gentle" ∷ codes "rough" ∷ []) (codes "erase")) ∷ flag (codes "all") ∷
@@ -118,7 +119,7 @@ unfoldable pub flash_commands : List Line
 flash_commands =
     (codes "sectors", [], groups.Layout ∷ groups.Source ∷ groups.Rules ∷ groups.Sectors ∷ groups.Rounds ∷ []) ∷
     (codes "frames", [], groups.Layout ∷ groups.Source ∷ groups.Rules ∷ groups.Picture ∷ []) ∷
-    (codes "picture", [], groups.Layout ∷ groups.Source ∷ groups.Rules ∷ groups.Picture ∷ []) ∷
+    (codes "picture", [], groups.Layout ∷ groups.Source ∷ groups.Rules ∷ groups.Picture ∷ groups.Torn ∷ []) ∷
     (codes "tears", [], groups.Layout ∷ groups.Source ∷ groups.Rules ∷ groups.Tears ∷ []) ∷
     (codes "vectors", [], groups.Layout ∷ groups.Source ∷ groups.Rules ∷ groups.Vectors ∷ []) ∷
     (codes "inspect", [], groups.Layout ∷ groups.Dump ∷ groups.Rules ∷ groups.Verdict ∷ []) ∷

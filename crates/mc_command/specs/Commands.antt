@@ -15,7 +15,7 @@ use Rattle.mc_actions.specs.declared.rounds.RoundText.TheVariants as texts
 use Rattle.mc_cli.specs.{Files.{Holds}, Program.{IsMcsim}}
 use Rattle.mc_campaign.specs.{Rows.{campaigns}, Texts.{fields_of}}
 use Rattle.mc_command.specs.Inspections.{AnswersInspect, AnswersLocate, GivesInspect, GivesLocate, LacksInspect, LacksLocate}
-use Rattle.mc_command.specs.{Pictures.{AnswersFrames, AnswersPicture, LacksPicture}, Tears.{AnswersTears, GivesTears, LacksTears}, declared.request.Command.{Command}, declared.request.Request.{Request}}
+use Rattle.mc_command.specs.{Pictures.{AnswersFrames, AnswersPicture, GivesPicture, LacksFrames, LacksPicture}, Tears.{AnswersTears, GivesTears, LacksTears}, declared.request.Command.{Command}, declared.request.Request.{Request}}
 use Rattle.mc_command.specs.declared.request.Command.TheVariants as commands
 use Rattle.mc_command.specs.declared.request.Request.TheVariants as requests
 use Rattle.mc_explore.specs.Rows.{subject}
@@ -54,7 +54,7 @@ Asks name holds found (requests.Sectors s v) = (name ≡ codes "sectors") × (As
 Asks name holds found (requests.CampaignShown c (texts.Operations span)) = (name ≡ codes "trace") × AsksTwo found × GivesCampaign holds found c × GivesSpan found span
 Asks name holds found (requests.CampaignShown c (texts.Sectors v)) = (name ≡ codes "sectors") × AsksTwo found × GivesCampaign holds found c × GivesView found v
 Asks name holds found (requests.Frames s ends span) = (name ≡ codes "frames") × GivesScheduled holds found s × GivesEnds found ends × GivesSpan found span
-Asks name holds found (requests.Picture s ends span) = (name ≡ codes "picture") × GivesScheduled holds found s × GivesEnds found ends × GivesSpan found span
+Asks name holds found (requests.Picture p) = (name ≡ codes "picture") × GivesPicture holds found p
 Asks name holds found (requests.Tears t) = (name ≡ codes "tears") × GivesTears holds found t
 Asks name holds found (requests.Vectors v) = (name ≡ codes "vectors") × GivesVectors holds found v
 Asks name holds found (requests.Inspect i) = (name ≡ codes "inspect") × GivesInspect holds found i
@@ -115,7 +115,7 @@ Lacks commands.Boot = LacksFrom (codes "-")
 Lacks commands.Replay = LacksRounds LacksScheduled LacksCampaign
 Lacks commands.Trace = LacksRounds LacksTraced (λ holds found. InTurn (GivesSpan found) (LacksSpan found) (λ span. LacksCampaign holds found))
 Lacks commands.Sectors = LacksRounds LacksViewed (λ holds found. InTurn (GivesView found) (LacksView found) (λ view. LacksCampaign holds found))
-Lacks commands.Frames = LacksPicture
+Lacks commands.Frames = LacksFrames
 Lacks commands.Picture = LacksPicture
 Lacks commands.Tears = LacksTears
 Lacks commands.Vectors = LacksVectors
@@ -167,7 +167,7 @@ Answers (requests.Trace s span) holds input = AnswersTrace s span
 Answers (requests.Sectors s v) holds input = AnswersSectors s v
 Answers (requests.CampaignShown c t) holds input = AnswersShown c t
 Answers (requests.Frames s ends span) holds input = AnswersFrames s ends span
-Answers (requests.Picture s ends span) holds input = AnswersPicture s ends span
+Answers (requests.Picture p) holds input = AnswersPicture p
 Answers (requests.Tears t) holds input = AnswersTears t
 Answers (requests.Vectors v) holds input = AnswersVectors v
 Answers (requests.Inspect i) holds input = AnswersInspect i

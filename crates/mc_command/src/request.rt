@@ -5,6 +5,7 @@ ghost use Rattle.mc_cli.specs.Files.{Holds};
 ghost use Rattle.mc_command.specs.Commands.{Answers, IsBounded, IsRead, command_name};
 
 use crate::inspect::{Inspected, LocateAsked};
+use crate::picture::PictureAsked;
 use crate::tears::TearsAsked;
 use crate::{inspect, picture, tears};
 use clap::ArgMatches;
@@ -110,7 +111,7 @@ pub enum Request<'p> {
     /// The frames of a schedule's boots.
     Frames(Scheduled, Ends, Span),
     /// The page that shows a schedule's boots.
-    Picture(Scheduled, Ends, Span),
+    Picture(PictureAsked),
     /// What torn operations of a boot lead to.
     Tears(TearsAsked<'p>),
     /// The distinct flashes that cuts or losses leave.
@@ -211,7 +212,7 @@ impl<'p> Request<'p> {
             Request::Frames(given, ends, span) => {
                 picture::answer_frames(alloc, given, ends, *span, out)
             }
-            Request::Picture(given, ends, span) => picture::answer(alloc, given, ends, *span, out),
+            Request::Picture(asked) => picture::answer(alloc, asked, out),
             Request::Tears(asked) => tears::answer(files, alloc, asked, out),
             Request::Vectors(asked) => vectors::answer(files, alloc, asked, out),
             Request::Inspect(asked) => inspect::answer(alloc, asked, out),
@@ -341,7 +342,7 @@ fn read_frames<'p, F: KnownFiles>(
 ///
 /// # Errors
 ///
-/// Those of `picture::read`.
+/// Those of `picture::read_picture`.
 fn read_picture<'p, F: KnownFiles>(
     files: &F,
     alloc: Global,
@@ -349,8 +350,8 @@ fn read_picture<'p, F: KnownFiles>(
 ) -> Result<Request<'p>, Refusal>
     ensures { IsRead Command.Picture (F.holds files.now) (found_of arguments.now) result }
 {
-    let (given, ends, span) = picture::read(files, alloc, arguments)?;
-    Ok(Request::Picture(given, ends, span))
+    let asked = picture::read_picture(files, alloc, arguments)?;
+    Ok(Request::Picture(asked))
 }
 
 /// What `explore` is asked for.

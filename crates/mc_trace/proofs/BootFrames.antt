@@ -10,7 +10,7 @@ use Rattle.mc_explore.specs.{inner.LastCuts.{boot_at}, inner.OneRound.{begun_of}
 use Rattle.mc_explore.specs.Boots.{at_cut}
 use Rattle.mc_flash.specs.{Flash.{Content, apply}, Geometry.{Geometry}, declared.op.Op.{Op}}
 use Rattle.mc_output.specs.{Text.{AppendsPrefix}, facts.Prefixes.{IsOut, out_all, out_begun, out_more, out_prefix}}
-use Rattle.mc_trace.specs.Frames.{Shown, boot_frame, boot_frames, frame_of, frames_from, text_seen, up_to_cut}
+use Rattle.mc_trace.specs.Frames.{Shown, boot_frame, boot_frames, frame_of, frames_from, text_seen, torn_lines, up_to_cut}
 use Rattle.mc_trace.specs.{declared.frame.Frame.{Frame}, declared.frame.Look.{Look}}
 use Rattle.mc_trace.specs.inner.Walking.{IsFrameHere, IsFrameOf, length_to, model_of, shown_frame}
 use Rattle.mc_walk.specs.Walks.{Walked}
@@ -104,25 +104,27 @@ module _ (look : Look) (start : Content) (boot : ℕ) (x : PowerOn) (cut : Optio
   pub frames_begun : (before : Option (List ℕ)) → IsOut before before whole (left 0)
   frames_begun before = out_begun before whole
 
-  module _ (number : ℕ) (s : Content) (f : Frame) (is : IsFrameOf boot x cut s f) (here : f.number ≡ number) (more : number < length list) where
+  module _ (number : ℕ) (s : Content) (f : Frame) (is : IsFrameOf boot x cut s f) (here : f.number ≡ number) (more : number < length list)
+      (lines : List ℕ) (lines_are : lines ≡ torn_lines look.torn look.expectation x number) where
     content : s ≡ at_cut x number
     content = is.content_is ∙ ap (at_cut x) here
 
-    next_frame : left number ≡ text_seen look x.geometry start s (shown_frame f) ++ left (number + 1)
+    next_frame : left number ≡ text_seen look x.geometry start s (shown_frame f) lines ++ left (number + 1)
     next_frame =
         let op_is : slice_get (ops_of x) number ≡ Some f.op = subst (λ n. slice_get (ops_of x) n ≡ Some f.op) here is.op_is in
         let report : outcome_of (again x (at_cut x number)) ≡ Some (shown f.outcome) = sym (ap (λ (t : Content). outcome_of (again x t)) content) ∙ is.outcome_is in
         ap (λ (ops : List Op). frames_from look start boot x cut number ops) (next_shown (ops_of x) cut number f.op op_is more)
         ∙ ap (λ (o : Option Report). boot_frame look start boot x cut number f.op o ++ left (number + 1)) report
-        ∙ ap (λ (r : Shown). text_seen look x.geometry start (at_cut x number) r ++ left (number + 1)) (sym shown_is)
-        ∙ ap (λ (t : Content). text_seen look x.geometry start t (shown_frame f) ++ left (number + 1)) (sym content)
+        ∙ ap (λ (r : Shown). text_seen look x.geometry start (at_cut x number) r (torn_lines look.torn look.expectation x number) ++ left (number + 1)) (sym shown_is)
+        ∙ ap (λ (t : Content). text_seen look x.geometry start t (shown_frame f) (torn_lines look.torn look.expectation x number) ++ left (number + 1)) (sym content)
+        ∙ ap (λ (t : List ℕ). text_seen look x.geometry start s (shown_frame f) t ++ left (number + 1)) (sym lines_are)
       where
         shown_is : shown_frame f ≡ frame_of boot cut number f.op (shown f.outcome)
         shown_is = rw (is.boot_is, is.cut_is, here) refl
 
     module _ (g : Geometry) (layout_is : x.geometry ≡ g) (before mid new : Option (List ℕ)) (out : IsOut before mid whole (left number)) where
       abbrev text : List ℕ
-      text = text_seen look g start s (shown_frame f)
+      text = text_seen look g start s (shown_frame f) lines
 
       out_here : IsOut before mid whole (text ++ left (number + 1))
       out_here = rw (sym layout_is, sym next_frame) out

@@ -4,25 +4,26 @@ use Rattle.std.proofs.Common.{ap, inr, refl}
 use Rattle.mc_boot.specs.{Plan.{PowerOn}}
 use Rattle.mc_explore.specs.{Schedules.{CanOccur}, declared.expectation.Expectation.{Expectation}}
 use Rattle.mc_start.specs.Start.{Started, begun}
+use Rattle.mc_tear.specs.declared.torn.Erasing.{Erasing}
 use Rattle.mc_trace.specs.{Picture.{BeginsPicture, Draws, IsPicture, IsVerdict, page_by, page_look}, Sectors.{RefusesWalk}, Trace.{RefusesTrace}}
 use Rattle.mc_trace.specs.declared.error.TraceError.{TraceError}
 use Rattle.mc_trace.specs.declared.error.TraceError.TheVariants as errors
 use Rattle.mc_trace.specs.{declared.picture.Verdict.{Verdict}, declared.frame.Look.{Look}, declared.trace.Span.{Span}, inner.Boots.{WritesText}}
 use Rattle.mc_trace.proofs.Tracing.{no_refusal}
 
-module _ (version : List ℕ) (e : Expectation) (span : Span) (s : Started) (cuts : List ℕ) (look : Look) (v : Verdict) (is : IsVerdict e (begun s) v)
-    (look_is : look ≡ page_look s.geometry e span) (before after : Option (List ℕ)) where
+module _ (version : List ℕ) (e : Expectation) (span : Span) (torn : Option Erasing) (s : Started) (cuts : List ℕ) (look : Look) (v : Verdict) (is : IsVerdict e (begun s) v)
+    (look_is : look ≡ page_look s.geometry e span torn) (before after : Option (List ℕ)) where
   abbrev pub text : List ℕ
   text = page_by look version s cuts v
 
-  picture_is : IsPicture version e span s cuts text
+  picture_is : IsPicture version e span torn s cuts text
   picture_is = (v, is, ap (λ (l : Look). page_by l version s cuts v) look_is)
 
-  pub drawn : {A E : Type 0} (r : Result A E) → WritesText r before after text → OnOk r (Draws version e span s cuts before after)
+  pub drawn : {A E : Type 0} (r : Result A E) → WritesText r before after text → OnOk r (Draws version e span torn s cuts before after)
   drawn (Ok _) out = (text, picture_is, out)
   drawn (Err _) out = tt
 
-  pub begins : {A E : Type 0} (r : Result A E) → WritesText r before after text → OnErr r ((after ≡ before) ⊎ BeginsPicture version e span s cuts before after)
+  pub begins : {A E : Type 0} (r : Result A E) → WritesText r before after text → OnErr r ((after ≡ before) ⊎ BeginsPicture version e span torn s cuts before after)
   begins (Ok _) out = tt
   begins (Err _) out = inr (text, picture_is, out)
 

@@ -16,3 +16,4 @@ pub mod Out
 mod SwapWork
 mod SwapWear
 mod Longest
+mod TornLines

@@ -10,6 +10,8 @@ use Rattle.mc_start.specs.Start.{Started, begun, schedule_text, start_digest}
 use Rattle.mc_trace.specs.{Patch.{sector_text}, Runs.{run_of, run_word, runs_by}, Sectors.{cell_of, letter, sector_of}, Trace.{is_in, operation_text}, Verdict.{is_boot}, Wear.{is_erase}}
 use Rattle.mc_trace.specs.{declared.cells.Cell.{Cell}, declared.frame.Form.{Form}, declared.frame.Look.{Look}, declared.frame.Sign.{Sign}, declared.header.TheConstants.{NAMES}}
 use Rattle.mc_trace.specs.{declared.runs.Run.{Run}, declared.trace.Span.{Span}}
+use Rattle.mc_tear.specs.declared.torn.Erasing.{Erasing}
+use Rattle.mc_tears.specs.Tears.{number_text}
 use Rattle.mc_trailer.specs.{Tables.{profile_text, type_text}, declared.tables.Rules.{Rules}}
 use Rattle.mc_boot.specs.Outcome as outcomes
 use Rattle.mc_explore.specs.Rows as rows
@@ -158,9 +160,14 @@ frame_end forms.Page g e f = row_end g e f
 abbrev pub frame_text : Look → Geometry → Content → Content → Shown → List ℕ
 frame_text look g start s f = frame_begin look.form g f ++ (flash_cells look g start s (target_of g f.op) ++ frame_end look.form g look.expectation f)
 
--- It is shown where its number lies in the span that is looked at.
-abbrev pub text_seen : Look → Geometry → Content → Content → Shown → List ℕ
-text_seen look g start s f = if is_in look.span f.number then frame_text look g start s f else []
+-- Below it are the lines of its operation's torn cases, where there are some.
+abbrev pub torn_row : List ℕ → List ℕ
+torn_row [] = []
+torn_row (c ∷ text) = codes "<pre class=\"t\">" ++ ((c ∷ text) ++ codes "</pre>\n")
+
+-- Both are shown where its number lies in the span that is looked at.
+abbrev pub text_seen : Look → Geometry → Content → Content → Shown → List ℕ → List ℕ
+text_seen look g start s f torn = if is_in look.span f.number then frame_text look g start s f ++ torn_row torn else []
 
 -- The boots of a schedule.
 
@@ -168,9 +175,16 @@ text_seen look g start s f = if is_in look.span f.number then frame_text look g 
 abbrev pub frame_of : ℕ → Option ℕ → ℕ → Op → Report → Shown
 frame_of boot cut number op report = record { boot = boot; number = number; is_cut = is_target cut number; op = op; report = report }
 
+-- The lines of the torn cases of operation n of the boot from x that end otherwise than a cut (docs/FORMAT.md, "Torn operations"), where
+-- an erase fails so; none where torn operations are not asked for.
+abbrev pub torn_lines : Option Erasing → Expectation → PowerOn → ℕ → List ℕ
+torn_lines None e x n = []
+torn_lines (Some erasing) e x n = number_text (record { erasing = erasing; all = false; expectation = e }) x n
+
 abbrev pub boot_frame : Look → Content → ℕ → PowerOn → Option ℕ → ℕ → Op → Option Report → List ℕ
 boot_frame look start boot x cut number op None = []
-boot_frame look start boot x cut number op (Some report) = text_seen look x.geometry start (at_cut x number) (frame_of boot cut number op report)
+boot_frame look start boot x cut number op (Some report) =
+    text_seen look x.geometry start (at_cut x number) (frame_of boot cut number op report) (torn_lines look.torn look.expectation x number)
 
 abbrev pub frames_from : Look → Content → ℕ → PowerOn → Option ℕ → ℕ → List Op → List ℕ
 frames_from look start boot x cut number [] = []
@@ -264,7 +278,7 @@ header_text version s e cuts = board_text version s ++ (images_text s ++ (expect
 -- The frames of a schedule as text, those of each boot whose numbers lie in a span. Sectors that go on with one another are one word.
 
 abbrev pub text_look : Expectation → Span → Look
-text_look e span = record { form = forms.Text; merges = true; expectation = e; span = span }
+text_look e span = record { form = forms.Text; merges = true; expectation = e; span = span; torn = None }
 
 abbrev pub frames_by : Look → List ℕ → Started → List ℕ → List ℕ
 frames_by look version s cuts = header_text version s look.expectation cuts ++ (NAMES.now ++ sections_text look s.content 0 (begun s) cuts)

@@ -3,3 +3,4 @@
 pub mod Boots
 pub mod Walking
 pub mod Swaps
+pub mod Torn

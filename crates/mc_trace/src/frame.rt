@@ -16,6 +16,7 @@ use mc_boot::Outcome;
 use mc_explore::{Expectation, Labels, Start, put_outcome, put_slots};
 use mc_flash::{Flash, Layout, Op, Slot};
 use mc_output::{Line, MOST_LINE, WriteFailed, write_line, write_text};
+use mc_tears::Erasing;
 use std::io::Write;
 
 /// How frames are written.
@@ -27,14 +28,15 @@ pub enum Form {
     Page,
 }
 
-/// How frames are shown: how they are written, whether sectors that go on with one another are one, what is right, and which operations of
-/// a boot are seen.
+/// How frames are shown: how they are written, whether sectors that go on with one another are one, what is right, which operations of
+/// a boot are seen, and how an erase fails, where torn operations are shown too.
 #[derive(Clone, Copy, Debug)]
 pub struct Look {
     pub form: Form,
     pub merges: bool,
     pub expectation: Expectation,
     pub span: Span,
+    pub torn: Option<Erasing>,
 }
 
 /// How an outcome is judged: it is right; or an image runs, and not all is as expected; or none runs.

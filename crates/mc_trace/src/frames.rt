@@ -1,5 +1,5 @@
 //! The frames of a schedule as text.
-ghost use Rattle.std.specs.Prelude.{◌≡◌, ◌+◌, ◌⊎◌, ◌≤◌, [], IfErr, IfOk, IsErrOf, OnErr, OnOk, false, length, true};
+ghost use Rattle.std.specs.Prelude.{◌≡◌, ◌+◌, ◌⊎◌, ◌≤◌, [], IfErr, IfOk, IsErrOf, None, OnErr, OnOk, false, length, true};
 ghost use Rattle.std.specs.Io.KnownBytes.{Appends};
 ghost use Rattle.mc_explore.specs.Schedules.{CanOccur};
 ghost use Rattle.mc_output.specs.Text.{AppendsPrefix};
@@ -60,6 +60,7 @@ fn write_all<F: Flash, W: Write>(
     requires root { walk.old.path ≡ [] }
     requires occurs { CanOccur (begun start.now) schedule.now }
     requires version { length version.now ≤ 40 }
+    requires whole { look.now.torn ≡ None }
     ensures written { WritesText result (W.contents writer.old) (W.contents writer.new)
         (frames_by look.now version.now start.now schedule.now) }
     ensures cause { IsErrOf result TraceError.Memory → walk.old.seen.usage.limits.counted ≡ false }
@@ -67,7 +68,7 @@ fn write_all<F: Flash, W: Write>(
 {
     write_header(version, start, &look.expectation, schedule, writer)?;
     write_text(writer, NAMES.as_bytes())?;
-    write_sections(walk, 0, schedule.cuts(), start, look, writer)
+    write_sections(walk, 0, schedule.cuts(), &[], start, look, writer)
 }
 
 /// Writes the frames of a schedule: what they are of; then for each boot its number, its type and how many operations it makes uncut, and a
@@ -105,6 +106,7 @@ pub fn write_frames<F: Flash + Drop, W: Write>(
         merges: true,
         expectation: *expectation,
         span,
+        torn: None,
     };
     write_all(&mut walk, version, start, schedule, &look, writer)
 }

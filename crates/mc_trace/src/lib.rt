@@ -22,6 +22,7 @@ mod sectors;
 mod slot_cells;
 mod slot_words;
 mod slots;
+mod torn;
 mod trace;
 mod verdict;
 mod wear;

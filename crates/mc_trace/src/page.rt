@@ -12,6 +12,7 @@ pub const HEAD: &str = "<!doctype html>
 body{margin:1.2em;background:var(--paper);color:var(--ink);font:14px/1.4 system-ui,sans-serif}
 h1{font-size:1.3em}h2{font-size:1.05em;margin:1.4em 0 .4em}
 pre{margin:.5em 0;padding:.5em .8em;border-left:5px solid;overflow:auto}
+pre.t{margin:.1em 0 .4em 7ch;padding:.1em 1ch;border-left:3px dashed var(--w);font:11px/1.5 ui-monospace,monospace}pre.t:before{content:\"power fails within it:\\a\";color:var(--w);font-weight:700}
 .y{color:var(--y)}.w{color:var(--w);font-weight:700}.z,.u{color:var(--z);font-weight:700}
 pre.y:before{content:\"\\2713  right\\a\"}pre.w:before{content:\"\\2260  not as expected\\a\"}pre.z:before{content:\"\\2717  no boot\\a\"}pre.u:before{content:\"\\2717  not all right\\a\"}
 .r .y:before{content:\"\\2713\\a0\"}.r .w:before{content:\"\\2260\\a0\"}.r .z:before{content:\"\\2717\\a0\"}
@@ -43,4 +44,5 @@ pub const NOTE: &str = "</pre>
 pub const LEGEND: &str = "</pre>
 <p>A row is an operation of a boot: its number, the sectors of both slots before it, the operation, and what the boot comes to after a cut there: &#10003; right, &#8800; another image runs or stays than is expected, &#10007; no image runs.</p>
 <p class=\"l\"><i class=\"a\">a0</i> what sector 0 of the primary held at the start, <i class=\"b\">b0</i> of the secondary; <i class=\"a h\">a0~</i> a copy of it that is not done; <i class=\"n\">-</i> blank; <i class=\"t\">t</i> trailer; <i class=\"o\">*</i> anything else; <i class=\"n x\">-</i> the sector that the operation changes; <i class=\"a\">a2..a9</i> sectors 2 to 9; <i class=\"n\">-x3</i> three alike.</p>
+<p>Where torn operations are shown, the indented lines below an operation say what the next boot may read if power fails within it, and how that boot ends, if it ends otherwise than after a cut: busy, that the flash still says a swap is under way.</p>
 ";

@@ -1,8 +1,9 @@
 //! The frames of a schedule as one page that a browser shows, with what all schedules come to.
-ghost use Rattle.std.specs.Prelude.{◌≡◌, ◌+◌, ◌⊎◌, ◌≤◌, [], IfErr, IfOk, IsErrOf, OnErr, OnOk, false, length, true};
+ghost use Rattle.std.specs.Prelude.{◌≡◌, ◌+◌, ◌⊎◌, ◌≤◌, [], IfErr, IfOk, IsErrOf, OnErr, OnOk, false, length, map, true};
 ghost use Rattle.mc_explore.specs.Schedules.{CanOccur};
 ghost use Rattle.mc_start.specs.Start.{begun};
 ghost use Rattle.mc_trace.specs.inner.Boots.{WritesText};
+ghost use Rattle.mc_trace.specs.inner.Torn.{AreTornAlong};
 ghost use Rattle.mc_trace.specs.inner.Walking.{IsReady};
 ghost use Rattle.mc_trace.specs.Trace.{RefusesTrace};
 ghost use Rattle.mc_trace.specs.Picture.{BeginsPicture, Draws, IsVerdict, opening_text, page_by, page_look, right_begin, rights_begin, verdict_text};
@@ -13,6 +14,7 @@ use crate::frames::walk_along;
 use crate::header::write_header;
 use crate::page::{HEAD, LEGEND, NOTE};
 use crate::sections::write_sections;
+use crate::torn::torn_along;
 use crate::trace::Span;
 use mc_explore::{
     Census, Expectation, OneRound, Rights, Schedule, Schedules, Start, census_line, rights_line,
@@ -20,6 +22,7 @@ use mc_explore::{
 };
 use mc_flash::{Flash, Layout, Slot};
 use mc_output::{Line, WriteFailed, write_line, write_text};
+use mc_tears::Erasing;
 use mc_walk::Walk;
 use std::alloc::Global;
 use std::io::Write;
@@ -51,8 +54,8 @@ fn verdict_of<F: Flash>(
 }
 
 // How the page of a layout looks.
-fn page_look(layout: &Layout, expectation: &Expectation, span: Span) -> Look
-    ensures { result ≡ page_look layout.now expectation.now span }
+fn page_look(layout: &Layout, expectation: &Expectation, span: Span, torn: Option<Erasing>) -> Look
+    ensures { result ≡ page_look layout.now expectation.now span torn }
 {
     let (primary, secondary) = (
         layout.sectors(Slot::Primary),
@@ -63,6 +66,7 @@ fn page_look(layout: &Layout, expectation: &Expectation, span: Span) -> Look
         merges: u64::from(primary) + u64::from(secondary) > 24,
         expectation: *expectation,
         span,
+        torn,
     }
 }
 
@@ -113,6 +117,7 @@ fn write_opening<W: Write>(verdict: &Verdict, writer: &mut W) -> Result<(), Writ
 fn write_page<F: Flash, W: Write>(
     walk: &mut Walk<F, OneRound<'_>>,
     verdict: &Verdict,
+    torn: &[Vec<Vec<u8>>],
     version: &str,
     start: &Start,
     schedule: &Schedule,
@@ -123,6 +128,8 @@ fn write_page<F: Flash, W: Write>(
     requires root { walk.old.path ≡ [] }
     requires occurs { CanOccur (begun start.now) schedule.now }
     requires version { length version.now ≤ 40 }
+    requires torn { AreTornAlong look.now.torn look.now.expectation (begun start.now) schedule.now
+        (map (λ lines. map (λ text. text.items) lines.items) torn.now) }
     ensures written { WritesText result (W.contents writer.old) (W.contents writer.new)
         (page_by look.now version.now start.now schedule.now verdict.now) }
     ensures cause { IsErrOf result TraceError.Memory → walk.old.seen.usage.limits.counted ≡ false }
@@ -131,13 +138,14 @@ fn write_page<F: Flash, W: Write>(
     write_opening(verdict, writer)?;
     write_header(version, start, &look.expectation, schedule, writer)?;
     write_text(writer, LEGEND.as_bytes())?;
-    write_sections(walk, 0, schedule.cuts(), start, look, writer)
+    write_sections(walk, 0, schedule.cuts(), torn, start, look, writer)
 }
 
 /// Writes a page that a browser shows: what all schedules of at most 16 cuts come to, and how many of them are right; what the page is of;
 /// then for each boot of a schedule a row for each of its operations up to the cut that lies in a span, with the flash before it, sector by
-/// sector, what a cut there comes to, and whether that is right; and the outcome of the last boot. It loads a flash as an explorer does, and
-/// takes no memory for the text. The version has at most 40 bytes.
+/// sector, what a cut there comes to, and whether that is right; and the outcome of the last boot. Where it is given how an erase fails,
+/// below an operation also the lines that `mc_tears::write_tears` writes of its torn cases, those that end otherwise than a cut. It loads a
+/// flash as an explorer does, and takes memory for no other text. The version has at most 40 bytes.
 /// Promised: a schedule's page (`drawn`, `begun`, `refused`, `occurs`, `cause`, `IsPicture`).
 ///
 /// # Errors
@@ -151,13 +159,14 @@ pub fn write_picture<F: Flash + Drop, W: Write>(
     schedule: &Schedule,
     expectation: &Expectation,
     span: Span,
+    torn: Option<Erasing>,
     writer: &mut W,
 ) -> Result<(), TraceError>
     requires { length version.now ≤ 40 }
-    ensures drawn { OnOk result (Draws version.now expectation.now span start.now schedule.now
+    ensures drawn { OnOk result (Draws version.now expectation.now span torn start.now schedule.now
         (W.contents writer.old) (W.contents writer.new)) }
     ensures begun { OnErr result ((W.contents writer.new ≡ W.contents writer.old)
-        ⊎ BeginsPicture version.now expectation.now span start.now schedule.now
+        ⊎ BeginsPicture version.now expectation.now span torn start.now schedule.now
         (W.contents writer.old) (W.contents writer.new)) }
     ensures refused { IfErr result (RefusesTrace (begun start.now) schedule.now writer.old
         writer.new) }
@@ -167,6 +176,16 @@ pub fn write_picture<F: Flash + Drop, W: Write>(
 {
     let mut walk = walk_along::<F>(alloc, start, schedule)?;
     let verdict = verdict_of::<F>(alloc, start, expectation)?;
-    let look = page_look(start.layout(), expectation, span);
-    write_page(&mut walk, &verdict, version, start, schedule, &look, writer)
+    let lines = torn_along::<F>(alloc, start, schedule.cuts(), expectation, torn)?;
+    let look = page_look(start.layout(), expectation, span, torn);
+    write_page(
+        &mut walk,
+        &verdict,
+        lines.as_slice(),
+        version,
+        start,
+        schedule,
+        &look,
+        writer,
+    )
 }

@@ -1,11 +1,12 @@
 //! The boots of a schedule, a section for each.
-ghost use Rattle.std.specs.Prelude.{◌≡◌, ◌+◌, ◌<◌, ◌≤◌, ◌++◌, ◌⊎◌, IfErr, IfSome, IsErrOf, OnOk, false, length};
+ghost use Rattle.std.specs.Prelude.{◌≡◌, ◌+◌, ◌<◌, ◌≤◌, ◌++◌, ◌⊎◌, IfErr, IfSome, IsErrOf, OnOk, false, length, map};
 ghost use Rattle.mc_boot.specs.Outcome.{ops_of, shown};
 ghost use Rattle.mc_explore.specs.Schedules.{CanOccur};
 ghost use Rattle.mc_explore.specs.facts.Children.{IsAtChild};
 ghost use Rattle.mc_explore.specs.inner.LastCuts.{boot_at};
 ghost use Rattle.mc_start.specs.Start.{begun};
 ghost use Rattle.mc_trace.specs.inner.Boots.{WritesText};
+ghost use Rattle.mc_trace.specs.inner.Torn.{AreTorn, AreTornAlong, first_boot, later_boots};
 ghost use Rattle.mc_trace.specs.inner.Walking.{IsReady, model_of};
 ghost use Rattle.mc_trace.specs.Frames.{boot_section, column_text, columns_text, end_text, heading, heading_text, sections_text};
 
@@ -107,6 +108,7 @@ fn write_section<F: Flash, W: Write>(
     walk: &mut Walk<F, OneRound<'_>>,
     boot: u32,
     cut: Option<u32>,
+    lines: &[Vec<u8>],
     start: &Start,
     look: &Look,
     writer: &mut W,
@@ -114,6 +116,8 @@ fn write_section<F: Flash, W: Write>(
     requires ready { IsReady (begun start.now) 1 walk.old }
     requires inside { IfSome cut (λ n. n < length (ops_of (boot_at (begun start.now)
         walk.old.path))) }
+    requires torn { AreTorn look.now.torn look.now.expectation (boot_at (begun start.now)
+        walk.old.path) (map (λ text. text.items) lines.now) }
     ensures written { WritesText result (W.contents writer.old) (W.contents writer.new)
         (boot_section look.now start.now.content boot (boot_at (begun start.now) walk.old.path) cut) }
     ensures goes { OnOk result (IfSome cut (λ n. IsAtChild model_of walk.old n
@@ -123,11 +127,24 @@ fn write_section<F: Flash, W: Write>(
 {
     let line = heading(look.form, start.layout(), boot, &walk.summary().outcome);
     write_line(writer, &line)?;
-    write_boot_frames(walk, boot, cut, start, look, writer)
+    write_boot_frames(walk, boot, cut, lines, start, look, writer)
 }
 
-/// Writes the sections of the boots from the node at which a walk stands: those that the cuts cut, the last one and its outcome, and
-/// the end.
+// The lines of the first boot, and those of the others.
+fn first_boot(torn: &[Vec<Vec<u8>>]) -> (&[Vec<u8>], &[Vec<Vec<u8>>])
+    ensures first { map (λ text. text.items) result.0.now
+        ≡ first_boot (map (λ lines. map (λ text. text.items) lines.items) torn.now) }
+    ensures later { map (λ lines. map (λ text. text.items) lines.items) result.1.now
+        ≡ later_boots (map (λ lines. map (λ text. text.items) lines.items) torn.now) }
+{
+    match torn.split_first() {
+        Some((lines, later)) => (lines.as_slice(), later),
+        None => (&[], &[]),
+    }
+}
+
+/// Writes the sections of the boots from the node at which a walk stands, with the lines of their torn cases: those that the cuts cut, the
+/// last one and its outcome, and the end.
 ///
 /// # Errors
 ///
@@ -136,6 +153,7 @@ pub fn write_sections<F: Flash, W: Write>(
     walk: &mut Walk<F, OneRound<'_>>,
     boot: u32,
     cuts: &[u32],
+    torn: &[Vec<Vec<u8>>],
     start: &Start,
     look: &Look,
     writer: &mut W,
@@ -143,6 +161,8 @@ pub fn write_sections<F: Flash, W: Write>(
     requires ready { IsReady (begun start.now) (length cuts.now + 1) walk.old }
     requires occurs { CanOccur (boot_at (begun start.now) walk.old.path) cuts.now }
     requires few { boot + length cuts.now ≤ 16 }
+    requires torn { AreTornAlong look.now.torn look.now.expectation (boot_at (begun start.now)
+        walk.old.path) cuts.now (map (λ lines. map (λ text. text.items) lines.items) torn.now) }
     ensures written { WritesText result (W.contents writer.old) (W.contents writer.new)
         (sections_text look.now start.now.content boot (boot_at (begun start.now) walk.old.path)
         cuts.now) }
@@ -150,11 +170,12 @@ pub fn write_sections<F: Flash, W: Write>(
     ensures err { IfErr result (λ e. (e ≡ TraceError.Memory) ⊎ (e ≡ TraceError.Write)) }
 {
     let outcome = walk.summary().outcome;
+    let (lines, later) = first_boot(torn);
     let Some((cut, rest)) = cuts.split_first() else {
-        write_section(walk, boot, None, start, look, writer)?;
+        write_section(walk, boot, None, lines, start, look, writer)?;
         write_line(writer, &end_line(look, &outcome))?;
         return Ok(());
     };
-    write_section(walk, boot, Some(*cut), start, look, writer)?;
-    write_sections(walk, boot + 1, rest, start, look, writer)
+    write_section(walk, boot, Some(*cut), lines, start, look, writer)?;
+    write_sections(walk, boot + 1, rest, later, start, look, writer)
 }

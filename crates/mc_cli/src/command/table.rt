@@ -30,6 +30,7 @@ pub enum Group {
     Trace,
     Sectors,
     Picture,
+    Torn,
     Tears,
     Vectors,
     Dump,
@@ -58,6 +59,7 @@ impl Group {
             Group::Trace => Some("Trace"),
             Group::Sectors => Some("Sectors"),
             Group::Picture => Some("Frames"),
+            Group::Torn => Some("Torn operations"),
             Group::Tears => Some("Tears"),
             Group::Vectors => Some("Vectors"),
             Group::Dump => Some("Dump"),
@@ -89,6 +91,7 @@ impl Group {
             Group::Trace => &TRACE,
             Group::Sectors => &SECTORS,
             Group::Picture => &PICTURE,
+            Group::Torn => &TORN,
             Group::Tears => &TEARS,
             Group::Vectors => &VECTORS,
             Group::Dump => &DUMP,
@@ -579,6 +582,24 @@ static VERDICT: [Word; 4] = [
 /// What gives a page that shows the boots of a schedule.
 static PICTURE: [Word; 5] = [SCHEDULE_IF_ANY, FROM, TO, EXPECT_PRIMARY, EXPECT_SECONDARY];
 
+/// How an erase fails, where torn operations are asked for.
+const ERASE_IF_TORN: Word = Word {
+    name: "erase",
+    takes: Takes::OneOf("HOW", &["gentle", "rough"]),
+    help: "With --torn, as tears --erase [default: gentle]",
+    ..FLAG
+};
+
+/// Whether that page also shows torn operations.
+static TORN: [Word; 2] = [
+    Word {
+        name: "torn",
+        help: "Also show the cases of torn operations that end unlike a cut, as tears does",
+        ..FLAG
+    },
+    ERASE_IF_TORN,
+];
+
 /// What gives what torn operations lead to.
 static TEARS: [Word; 9] = [
     SCHEDULE_IF_ANY,
@@ -633,12 +654,7 @@ static VECTORS: [Word; 5] = [
         help: "Also lose power within operations, as tears does",
         ..FLAG
     },
-    Word {
-        name: "erase",
-        takes: Takes::OneOf("HOW", &["gentle", "rough"]),
-        help: "With --torn, as tears --erase [default: gentle]",
-        ..FLAG
-    },
+    ERASE_IF_TORN,
     Word {
         name: "dir",
         takes: Takes::Value("DIR"),
@@ -778,7 +794,8 @@ Example:
 const AFTER_PICTURE: &str = "\
 Prints one HTML file with no script, for any browser: how all schedules of at most 16 cuts end and how
 many of them end right; and then what `frames` prints, a row for each operation. At most 20,000 operations
-are drawn: of longer boots --from and --to say which.
+are drawn: of longer boots --from and --to say which. With --torn there are lines below an operation if
+power that fails within it can lead to another end than a cut: those that `tears` prints of it.
 Example:
   mcsim picture [LAYOUT] [SOURCE] --schedule 9.4 > swap.html";
 
@@ -1053,7 +1070,13 @@ static FLASHES: [Subcommand; 7] = [
         about: "Draw the boots of a schedule, operation by operation, as a page for a browser",
         usage: Some("mcsim picture <LAYOUT> <SOURCE> [OPTIONS]"),
         after_help: Some(AFTER_PICTURE),
-        groups: &[Group::Layout, Group::Source, Group::Rules, Group::Picture],
+        groups: &[
+            Group::Layout,
+            Group::Source,
+            Group::Rules,
+            Group::Picture,
+            Group::Torn,
+        ],
     },
     Subcommand {
         name: "tears",

@@ -1,4 +1,4 @@
-use Rattle.std.specs.Prelude.{◌≡◌, ◌+◌, IfSome, ◌∷◌, [], ℕ, length, suc, refl, None, Option, Some}
+use Rattle.std.specs.Prelude.{◌≡◌, ◌+◌, ◌<◌, IfSome, ◌∷◌, [], ℕ, length, map, suc, refl, None, Option, Some}
 use Rattle.std.proofs.{Common.{arith, ap, subst, ◌∙◌}, lemmas.Result.{err_from_is_err_and}, lemmas.List.{length-append}}
 use Rattle.mc_boot.specs.{Outcome.{ops_of}, Plan.{PowerOn}}
 use Rattle.mc_explore.specs.{facts.Children.{HasCome, IsAtChild, can_pass, come_on, reached, width_here}, facts.Occurring.{landed_again}}
@@ -6,7 +6,7 @@ use Rattle.mc_explore.specs.{declared.one_round.OneRound.{OneRound}, inner.LastC
 use Rattle.mc_output.specs.facts.Prefixes.{out_stops}
 use Rattle.mc_flash.specs.Usage.{Seen}
 use Rattle.mc_start.specs.Start.{begun}
-use Rattle.mc_trace.specs.inner.Walking.{length_to, model_of}
+use Rattle.mc_trace.specs.{Frames.{torn_lines}, inner.Torn.{line_at}, inner.Walking.{length_to, model_of}}
 use Rattle.mc_trace.proofs.BootFrames.{all_shown, end_out, frame_begun, frame_is, frame_out, frames_begun, number_is, one_shown, one_there}
 use Rattle.mc_trace.proofs.boot_frames.write_boot_frames.Given.{Over}
 use Rattle.mc_trace.proofs.boot_frames.write_boot_frames.Goals as goal
@@ -57,6 +57,17 @@ write_seen-requires g c =
     ap (λ (s : Seen). s.geometry) c.flash.ensures ∙ c.frame_here-frame.ensures.layout ∙ ap (λ (t : OneRound). (begins t).geometry) here.same.flash_tree
     ∙ ap (λ (x : PowerOn). x.geometry) c.requires.ready.start_is
 
+-- The lines of the operation's torn cases.
+lines_are : (g : Over) (c : In_ok-go_to_child g) → line_at (map (λ text. text.items) c.args.lines.now) c.loop-number.number
+    ≡ torn_lines c.args.look.now.torn c.args.look.now.expectation (boot_at (begun c.args.start.now) c.args.walk.now.path) c.loop-number.number
+lines_are g c =
+    let start = begun c.args.start.now in
+    let walk = c.args.walk.now in
+    let i = c.loop-number.invariant in
+    c.requires.torn c.loop-number.number
+    (subst (λ y. c.loop-number.number < length (ops_of (boot_at y walk.path))) c.requires.ready.start_is
+    (one_there start walk c.requires.ready.start_is c.args.cut c.requires.inside _ i.to_is c.loop-number.number c.loop-number-test.true))
+
 pub returns-in_err-write_seen-clause-written : goal.returns-in_err-write_seen-clause-written
 returns-in_err-write_seen-clause-written g c =
     let start = begun c.args.start.now in
@@ -70,7 +81,8 @@ returns-in_err-write_seen-clause-written g c =
     let more = one_shown start walk c.requires.ready.start_is c.args.cut c.requires.inside _ i.to_is c.loop-number.number c.loop-number-test.true in
     let layout = ap (λ (x : PowerOn). x.geometry) (landed_again start walk.path) in
     let failed = err_from_is_err_and c.from_residual-in_err-write_seen.result c.from_residual-in_err-write_seen.ensures.1 in
-    rw failed.1 (frame_begun c.args.look.now start.content c.args.boot (boot_at start walk.path) c.args.cut c.loop-number.number at.seen.content _ is number more start.geometry layout
+    rw failed.1 (frame_begun c.args.look.now start.content c.args.boot (boot_at start walk.path) c.args.cut c.loop-number.number at.seen.content _ is number more _
+    (c.line_at.ensures ∙ lines_are g (goal.at.returns-in_err-write_seen-clause-written g c).In_ok-go_to_child) start.geometry layout
     (g.W.Write.contents c.args.writer.now) (g.W.Write.contents c.loop-number.writer) (g.W.Write.contents c.write_seen.new.writer) i.out
     (rw c.flash.ensures at c.in_err-write_seen.ensures))
 
@@ -92,8 +104,8 @@ loop-number-preserved g c =
       to_is = i.to_is;
       at = λ m e. let same : n ≡ m = omega (arith, e) in subst (λ k. IsAtChild model_of walk k at) same here;
       come = subst (λ k. HasCome model_of walk k at) one (come_on model_of walk n at here);
-      out = frame_out c.args.look.now start.content c.args.boot (boot_at start walk.path) c.args.cut n at.seen.content _ is number more
-          start.geometry layout (g.W.Write.contents c.args.writer.now) (g.W.Write.contents c.loop-number.writer) (g.W.Write.contents c.write_seen.new.writer) i.out
+      out = frame_out c.args.look.now start.content c.args.boot (boot_at start walk.path) c.args.cut n at.seen.content _ is number more _
+          (c.line_at.ensures ∙ lines_are g (goal.at.loop-number-preserved g c).In_ok-go_to_child) start.geometry layout (g.W.Write.contents c.args.writer.now) (g.W.Write.contents c.loop-number.writer) (g.W.Write.contents c.write_seen.new.writer) i.out
           (rw c.flash.ensures at c.in_ok-write_seen.ensures);
     }
 

@@ -32,3 +32,6 @@ returns-clause-written g c =
     writes_then _ _ _ (opening_text c.args.verdict.now) _ c.write_sections.result c.in_ok-write_opening.ensures
     (writes_then _ _ _ (header_text c.args.version.now s c.args.look.now.expectation c.args.schedule.now) _ c.write_sections.result c.in_ok-write_header.ensures
     (writes_then _ _ _ LEGEND.now (sections_text c.args.look.now s.content 0 (begun s) c.args.schedule.now) c.write_sections.result legend later))
+
+pub write_sections-requires-clause-torn : goal.write_sections-requires-clause-torn
+write_sections-requires-clause-torn g c = rw (c.requires.root, c.cuts.ensures.value) c.requires.torn

@@ -7,7 +7,7 @@ use Rattle.mc_explore.specs.Boots.{at_cut}
 use Rattle.mc_output.specs.Text.{AppendsPrefix}
 use Rattle.mc_start.specs.Start.{begun}
 use Rattle.mc_trace.specs.{Frames.{boot_section, end_text, sections_text}, inner.Boots.{WritesText}, inner.Walking.{IsReady, model_of}}
-use Rattle.mc_trace.proofs.{Headed.{child_boot, first_occurs, last_is, next_is, outcome_here}, Writing.{first_begun, then_begun, writes_then}}
+use Rattle.mc_trace.proofs.{Headed.{child_boot, first_occurs, last_is, next_is, outcome_here}, TornLines.{torn_first, torn_later}, Writing.{first_begun, then_begun, writes_then}}
 use Rattle.mc_trace.proofs.sections.+write_sections.Goals as goal
 
 pub returns-in_err-write_section-clause-written : goal.returns-in_err-write_section-clause-written
@@ -76,7 +76,9 @@ write_sections-requires g t c κs within =
     let start_is = ap begins here.same.flash_tree ∙ c.requires.ready.start_is in
     let ready : IsReady (begun c.args.start.now) (length rest + 1) at = record { start_is = start_is; stands = here.stands; listed = listed; deep = deep } in
     let few : c.args.boot + 1 + length rest ≤ 16 = omega (arith, c.requires.few, c.in-Some.ensures.cases.1) in
-    (omega (arith, c.decreases, c.in-Some.ensures.cases.1), (within.0, (within.1, (ready, (occurs, few)))))
+    let torn = torn_later c.args.look.now.torn c.args.look.now.expectation x _ c.args.cuts.now cut rest _ _ c.in-Some.ensures.cases.0
+    (child_boot (begun c.args.start.now) walk at cut here) c.first_boot.ensures.later c.requires.torn in
+    (omega (arith, c.decreases, c.in-Some.ensures.cases.1), (within.0, (within.1, (ready, (occurs, (few, torn))))))
 
 pub returns-clause-written : goal.returns-clause-written
 returns-clause-written g t c =
@@ -91,3 +93,11 @@ returns-clause-written g t c =
     (sym (next_is look start c.args.boot x c.args.cuts.now cut rest c.in-Some.ensures.cases.0))
     (writes_then _ _ _ (boot_section look start c.args.boot x (Some cut)) (sections_text look start (c.args.boot + 1) (again x (at_cut x cut)) rest) c.write_sections.result
     c.in_ok-write_section-2.ensures.written later)
+
+pub write_section-requires-clause-torn : goal.write_section-requires-clause-torn
+write_section-requires-clause-torn g t c =
+    rw c.first_boot.ensures.first (torn_first c.args.look.now.torn c.args.look.now.expectation (boot_at (begun c.args.start.now) c.args.walk.now.path) _ c.args.cuts.now c.requires.torn)
+
+pub write_section-requires-2-clause-torn : goal.write_section-requires-2-clause-torn
+write_section-requires-2-clause-torn g t c =
+    rw c.first_boot.ensures.first (torn_first c.args.look.now.torn c.args.look.now.expectation (boot_at (begun c.args.start.now) c.args.walk.now.path) _ c.args.cuts.now c.requires.torn)
