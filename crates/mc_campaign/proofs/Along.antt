@@ -20,7 +20,7 @@ use Rattle.mc_explore.specs.declared.rounds.Rounds.TheVariants as kinds
 use Rattle.mc_campaign.specs.facts.Paths.{path_of}
 use Rattle.mc_explore.specs.Rounds.{second_start, tree_of}
 use Rattle.mc_explore.specs.declared.rounds.Both.{Both}
-use Rattle.mc_explore.specs.inner.BootTree.{AreSummaries, confirms_of, model_of, root_of}
+use Rattle.mc_explore.specs.inner.BootTree.{AreSummaries, confirms_of, model_is, model_of, root_of, summaries_at}
 use Rattle.mc_tree.specs.Tree as trees
 
 -- ---- labels along a path
@@ -74,7 +74,7 @@ module _ (c : List (ℕ × ℕ)) (confirms : Bool) (old : Walked BootTree) where
       → HasChildOf confirms p (get_or c n (0, 0)) number)
       (valid : IsLayout (begun_of old).geometry) (two : old.flash_tree.rounds ≡ kinds.Two confirms) where
     paths_are : IsPath (model_of old.flash_tree) old ≡ IsPathIn
-    paths_are = ap (λ r. trees.IsMember (tree_of (confirms_of r)) (root_of r (begun_of old)) old.bound) two
+    paths_are = rw (model_is old.flash_tree) (ap (λ r. trees.IsMember (tree_of (confirms_of r)) (root_of r (begun_of old)) old.bound) two)
 
     -- The node where it stands.
     abbrev here : RoundNode PowerOn
@@ -83,7 +83,7 @@ module _ (c : List (ℕ × ℕ)) (confirms : Bool) (old : Walked BootTree) where
     summary_here : AreSummaries (begun_of old) (kinds.Two confirms) here summary
     summary_here =
         subst (λ r. AreSummaries (begun_of old) r (landed (tree_of (confirms_of r)) (root_of r (begun_of old)) mid.path) summary) two
-        (subst (λ (b : BootTree). (model_of b).IsSummary (landed (model_of b).tree (model_of b).root mid.path) summary) a.same.flash_tree there.summary_is)
+        (summaries_at old.flash_tree mid.path summary (rw a.same.flash_tree at there.summary_is))
 
     abbrev named : ℕ → ℕ × ℕ
     named i = name here i

@@ -5,7 +5,7 @@ use Rattle.mc_flash.specs.Usage.{Limits, limits_for, most_operations, most_saved
 use Rattle.mc_boot.specs.Plan.{PowerOn}
 use Rattle.mc_walk.specs.inner.Stack.{most_at}
 use Rattle.mc_boot.specs.Restart.{one_write}
-use Rattle.mc_explore.specs.inner.OneRound.{one_round}
+use Rattle.mc_explore.specs.inner.OneRound.{one_round, one_round_is}
 use Rattle.mc_explore.specs.facts.BootRoom.{some_operations}
 
 -- A flash loaded for two boots more than so many cuts have room for, on which no more was counted than those cuts and a boot make, has
@@ -14,6 +14,7 @@ pub room_for_one : (start : PowerOn) (n boots : ℕ) (f : Seen) → LeaveRoom f.
     → f.usage.limits ≡ limits_for start.rules.grain start.geometry boots → n + 2 ≤ boots → Allows one_write f
 unfolding limits_for
 room_for_one start n boots f counted is many =
+    let counted = rw (one_round_is start) at counted in
     let g = start.geometry in
     let most = most_operations start.rules.grain g in
     let entries : n * most + 2 * most ≤ boots * most = rw (sym (two n most)) (mul-le-mul_right most many) in

@@ -8,7 +8,7 @@ use Rattle.mc_boot.specs.{Boot.{progress, left_of}, facts.Bounds.{few_ops}, Rest
 use Rattle.mc_boot.specs.declared.boot.Boot.{Boot}
 use Rattle.mc_walk.specs.TreeModel.{AreTwinsOn, IsAt, IsChild, IsChildSummary, IsTwin}
 use Rattle.mc_tree.specs.{inner.Weights.{AreTwins}}
-use Rattle.mc_explore.specs.{inner.OneRound.{IsOf, CanPass, CountsAtMost, IsSummary, LeavesAlike, most_of, one_round}, facts.Occurring.{at_zero}}
+use Rattle.mc_explore.specs.{inner.OneRound.{IsOf, CanPass, CountsAtMost, IsSummary, LeavesAlike, most_of, round_model}, facts.Occurring.{at_zero}}
 use Rattle.mc_explore.specs.{Boots.{at_cut, boots}, Rounds.{second_start, tree_of}}
 use Rattle.mc_explore.specs.{facts.Summaries.{first_left, first_on, width_is}, declared.one_round.Summary.{Summary}}
 use Rattle.mc_explore.specs.inner.BootTree.{AreSummaries, IsLater, HasFirst, confirms_of, step_of, began_at, later_from, later_number, boot_at, left_of_child_boot, most_of_both, owed_at, boot_model}
@@ -34,7 +34,7 @@ module _ (start : PowerOn) (rounds : Rounds) where
   geometry_of : (s : PowerOn) → IsOf start s → start.geometry ≡ s.geometry
   geometry_of s of = sym (ap (λ (y : PowerOn). y.geometry) of)
 
-  left_at : (s : PowerOn) (summary : Summary) → (one_round start).IsSummary s summary → (old : Counts) → LeaveRoom old (left_of start.geometry (progress summary.boot)) (plus old (most_of start))
+  left_at : (s : PowerOn) (summary : Summary) → (round_model start).IsSummary s summary → (old : Counts) → LeaveRoom old (left_of start.geometry (progress summary.boot)) (plus old (most_of start))
   left_at s summary is old =
       let P : PowerOn → Type 0 = λ y. LeaveRoom old (left_of y.geometry (progress summary.boot)) (plus old (most_of y)) in
       subst P is.0 (first_left s summary is.1 old)
@@ -55,7 +55,7 @@ module _ (start : PowerOn) (rounds : Rounds) where
       → IsAt (boot_model start rounds) p 0 (child_boots.First summary.first.boot summary.first.outcome.ops summary.second) seen
   begins_first (round_one s) summary seen round some t content layout =
       let ops = width_is s summary.first t.first_is.1 in
-      let at : IsAt (one_round start) s 0 summary.first.boot seen = record { on_is = (t.first_is.0, first_on s summary.first t.first_is.1); content_is = content ∙ at_zero s; layout_is = layout } in
+      let at : IsAt (round_model start) s 0 summary.first.boot seen = record { on_is = (t.first_is.0, first_on s summary.first t.first_is.1); content_is = content ∙ at_zero s; layout_is = layout } in
       at_first start rounds s 0 summary.first.boot summary.first.outcome.ops summary.second seen at t.inside (omega (arith, some, ops)) ops t.second_is
   begins_first (round_two began s) summary seen round some t content layout = let not_so : rounds_of.First ≡ rounds_of.Second = sym round ∙ t.round_is in absurd cc
 
@@ -94,7 +94,7 @@ module _ (start : PowerOn) (rounds : Rounds) where
   second_passes p i boot seen at early room = grind arith
 
   pub next_first : (p : RoundNode PowerOn) (i : ℕ) (boot boot' : Boot) (ops : ℕ) (later : Summary) (old new : Seen) → IsAt (boot_model start rounds) p i (child_boots.First boot ops later) old
-      → ((s : PowerOn) (j : ℕ) → IsAt (one_round start) s j boot old → j < length (ops_of s) → IsAt (one_round start) s (j + 1) boot' new) → boot'.done < ops
+      → ((s : PowerOn) (j : ℕ) → IsAt (round_model start) s j boot old → j < length (ops_of s) → IsAt (round_model start) s (j + 1) boot' new) → boot'.done < ops
       → IsAt (boot_model start rounds) p (i + 1) (child_boots.First boot' ops later) new
   next_first (round_one s) i boot boot' ops later old new at passes more =
       let there = passes s i (first_at start rounds s i boot ops later old at) at.on_is.early in
@@ -103,7 +103,7 @@ module _ (start : PowerOn) (rounds : Rounds) where
 
   pub next_between : (p : RoundNode PowerOn) (i : ℕ) (boot boot' : Boot) (ops : ℕ) (later : Summary) (old mid new : Seen)
       → IsAt (boot_model start rounds) p i (child_boots.First boot ops later) old
-      → ((s : PowerOn) (j : ℕ) → IsAt (one_round start) s j boot old → j < length (ops_of s) → IsAt (one_round start) s (j + 1) boot' mid) → ops ≤ boot'.done
+      → ((s : PowerOn) (j : ℕ) → IsAt (round_model start) s j boot old → j < length (ops_of s) → IsAt (round_model start) s (j + 1) boot' mid) → ops ≤ boot'.done
       → new.content ≡ confirmed_if (confirms_of rounds) mid.geometry mid.content → new.geometry ≡ mid.geometry → IsAt (boot_model start rounds) p (i + 1) (child_boots.Second later.boot) new
   next_between (round_one s) i boot boot' ops later old mid new at passes over is same =
       let there = passes s i (first_at start rounds s i boot ops later old at) at.on_is.early in
@@ -114,7 +114,7 @@ module _ (start : PowerOn) (rounds : Rounds) where
   next_between (round_two began s) i boot boot' ops later old mid new at passes over is same = absurd at.on_is
 
   pub next_second : (p : RoundNode PowerOn) (i : ℕ) (boot boot' : Boot) (old new : Seen) → IsAt (boot_model start rounds) p i (child_boots.Second boot) old
-      → ((s : PowerOn) (j : ℕ) → IsAt (one_round start) s j boot old → j < length (ops_of s) → IsAt (one_round start) s (j + 1) boot' new) → i < width (confirms_of rounds) p
+      → ((s : PowerOn) (j : ℕ) → IsAt (round_model start) s j boot old → j < length (ops_of s) → IsAt (round_model start) s (j + 1) boot' new) → i < width (confirms_of rounds) p
       → IsAt (boot_model start rounds) p (i + 1) (child_boots.Second boot') new
   next_second p i boot boot' old new at passes early = grind arith
 
@@ -140,14 +140,14 @@ module _ (start : PowerOn) (rounds : Rounds) where
 
   pub parent_first : (p : RoundNode PowerOn) (i : ℕ) (boot : Boot) (ops : ℕ) (later : Summary) (parent : Both) (seen : Seen)
       → IsAt (boot_model start rounds) p i (child_boots.First boot ops later) seen
-      → AreSummaries start rounds p parent → IsChild (one_round start) boot parent.first seen
+      → AreSummaries start rounds p parent → IsChild (round_model start) boot parent.first seen
   parent_first (round_one s) i boot ops later parent seen at t = (s, i, first_at start rounds s i boot ops later seen at, at.on_is.early, t.first_is)
   parent_first (round_two began s) i boot ops later parent seen at t = absurd at.on_is
 
   -- Where the outcome of the first round follows from that of the boot that was cut, so does that of the second.
   pub summary_alike : (p : RoundNode PowerOn) (i : ℕ) (boot : Boot) (ops : ℕ) (later one : Summary) (parent : Both) (seen : Seen)
       → IsAt (boot_model start rounds) p i (child_boots.First boot ops later) seen
-      → AreSummaries start rounds p parent → IsChildSummary (one_round start) boot parent.first seen one → LeavesAlike start boot parent.first seen
+      → AreSummaries start rounds p parent → IsChildSummary (round_model start) boot parent.first seen one → LeavesAlike start boot parent.first seen
       → AreSummaries start rounds (child (confirms_of rounds) p i) (record { round = rounds_of.First; first = one; second = parent.second })
   summary_alike (round_one s) i boot ops later one parent seen at t gives alike =
       let here = first_at start rounds s i boot ops later seen at in
@@ -157,7 +157,7 @@ module _ (start : PowerOn) (rounds : Rounds) where
         inside = at.on_is.inside;
         round_is = refl;
         first_is = gives s i here at.on_is.early t.first_is;
-        second_is = subst (λ x. (one_round start).IsSummary x parent.second) (sym same) t.second_is;
+        second_is = subst (λ x. (round_model start).IsSummary x parent.second) (sym same) t.second_is;
       })
   summary_alike (round_two began s) i boot ops later one parent seen at t gives alike = absurd at.on_is
 
@@ -184,11 +184,11 @@ module _ (start : PowerOn) (rounds : Rounds) where
 
   pub summary_second : (p : RoundNode PowerOn) (i : ℕ) (boot : Boot) (two : Summary) (parent : Both) (seen : Seen) → IsAt (boot_model start rounds) p i (child_boots.Second boot) seen
       → i < width (confirms_of rounds) p
-      → AreSummaries start rounds p parent → IsChildSummary (one_round start) boot parent.second seen two
+      → AreSummaries start rounds p parent → IsChildSummary (round_model start) boot parent.second seen two
       → AreSummaries start rounds (child (confirms_of rounds) p i) (record { round = rounds_of.Second; first = parent.first; second = two })
   summary_second p i boot two parent seen at early t gives =
       let there = later_child (confirms_of rounds) p i at.on_is.0 in
-      let here : IsAt (one_round start) (later_from (confirms_of rounds) p) (later_number p i) boot seen =
+      let here : IsAt (round_model start) (later_from (confirms_of rounds) p) (later_number p i) boot seen =
       record { on_is = at.on_is.1; content_is = at.content_is ∙ ap (λ q. (boot_at q).content) there; layout_is = at.layout_is } in
       subst (λ q. AreSummaries start rounds q (record { round = rounds_of.Second; first = parent.first; second = two })) (sym there)
       (record { inside = tt; round_is = refl; first_is = t.first_is; second_is = gives (later_from (confirms_of rounds) p) (later_number p i) here (later_some p i at.on_is.0 early) t.second_is })
@@ -257,26 +257,26 @@ module _ (start : PowerOn) (rounds : Rounds) where
 
   -- A child in the second round is on its way as that of its boot.
   pub second_at : (p : RoundNode PowerOn) (i : ℕ) (boot : Boot) (seen : Seen) → IsAt (boot_model start rounds) p i (child_boots.Second boot) seen
-      → IsAt (one_round start) (later_from (confirms_of rounds) p) (later_number p i) boot seen
+      → IsAt (round_model start) (later_from (confirms_of rounds) p) (later_number p i) boot seen
   second_at p i boot seen at =
       record { on_is = at.on_is.1; content_is = at.content_is ∙ ap (λ q. (boot_at q).content) (later_child (confirms_of rounds) p i at.on_is.0); layout_is = at.layout_is }
 
   pub at_second : (p : RoundNode PowerOn) (i j : ℕ) (boot : Boot) (seen : Seen) → IsLater p i
-      → IsAt (one_round start) (later_from (confirms_of rounds) p) (later_number p i + j) boot seen → IsAt (boot_model start rounds) p (i + j) (child_boots.Second boot) seen
+      → IsAt (round_model start) (later_from (confirms_of rounds) p) (later_number p i + j) boot seen → IsAt (boot_model start rounds) p (i + j) (child_boots.Second boot) seen
   at_second p i j boot seen later at = record {
-    on_is = (is_later_on p i j later, subst (λ n. (one_round start).IsOn (later_from (confirms_of rounds) p) n boot) (sym (later_on p i j later)) at.on_is);
+    on_is = (is_later_on p i j later, subst (λ n. (round_model start).IsOn (later_from (confirms_of rounds) p) n boot) (sym (later_on p i j later)) at.on_is);
     content_is = at.content_is ∙ ap (λ q. (boot_at q).content) (sym (child_on p i j later));
     layout_is = at.layout_is;
   }
 
   -- The summary of one says how the second round ends, and the other way round.
   second_of : (p : RoundNode PowerOn) (i : ℕ) (child_summary : Both) → IsLater p i → AreSummaries start rounds (child (confirms_of rounds) p i) child_summary
-      → (one_round start).IsSummary (boots.child (later_from (confirms_of rounds) p) (later_number p i)) child_summary.second
+      → (round_model start).IsSummary (boots.child (later_from (confirms_of rounds) p) (later_number p i)) child_summary.second
   second_of p i child_summary later is =
       (subst (λ q. AreSummaries start rounds q child_summary) (later_child (confirms_of rounds) p i later) is).second_is
 
   summary_on : (p : RoundNode PowerOn) (i j : ℕ) (child_summary : Both) → IsLater p i → AreSummaries start rounds (child (confirms_of rounds) p i) child_summary
-      → (one_round start).IsSummary (boots.child (later_from (confirms_of rounds) p) (later_number p i + j)) child_summary.second
+      → (round_model start).IsSummary (boots.child (later_from (confirms_of rounds) p) (later_number p i + j)) child_summary.second
       → AreSummaries start rounds (child (confirms_of rounds) p (i + j)) child_summary
   summary_on p i j child_summary later is second =
       let here = subst (λ q. AreSummaries start rounds q child_summary) (later_child (confirms_of rounds) p i later) is in
@@ -292,15 +292,15 @@ module _ (start : PowerOn) (rounds : Rounds) where
   -- The next child is a twin where that of the boot is.
   pub twin_beyond : (p : RoundNode PowerOn) (i : ℕ) (boot : Boot) (child_summary : Both) (seen : Seen) → IsAt (boot_model start rounds) p i (child_boots.Second boot) seen
       → AreSummaries start rounds (child (confirms_of rounds) p i) child_summary
-      → ((one_round start).IsSummary (boots.child (later_from (confirms_of rounds) p) (later_number p i)) child_summary.second
-      → IsTwin (one_round start) (later_from (confirms_of rounds) p) (later_number p i) child_summary.second)
+      → ((round_model start).IsSummary (boots.child (later_from (confirms_of rounds) p) (later_number p i)) child_summary.second
+      → IsTwin (round_model start) (later_from (confirms_of rounds) p) (later_number p i) child_summary.second)
       → IsTwin (boot_model start rounds) p i child_summary
   twin_beyond p i boot child_summary seen at is twin =
       let t = twin (second_of p i child_summary at.on_is.0 is) in
       record { summary_is = summary_on p i 1 child_summary at.on_is.0 is t.summary_is; twins = twins_on p i 1 at.on_is.0 t.twins }
 
   pub twins_beyond : (p : RoundNode PowerOn) (i count : ℕ) (child_summary : Both) → IsLater p i → AreSummaries start rounds (child (confirms_of rounds) p i) child_summary
-      → AreTwinsOn (one_round start) (later_from (confirms_of rounds) p) (later_number p i) count child_summary.second
+      → AreTwinsOn (round_model start) (later_from (confirms_of rounds) p) (later_number p i) count child_summary.second
       → AreTwinsOn (boot_model start rounds) p i count child_summary
   twins_beyond p i count child_summary later is t = record {
     summaries = λ j le. summary_on p i j child_summary later is (t.summaries j le);
@@ -308,7 +308,7 @@ module _ (start : PowerOn) (rounds : Rounds) where
   }
 
   pub summary_below : (p : RoundNode PowerOn) (i : ℕ) (child_summary : Both) → IsLater p i → AreSummaries start rounds (child (confirms_of rounds) p i) child_summary
-      → (one_round start).IsSummary (boots.child (later_from (confirms_of rounds) p) (later_number p i)) child_summary.second
+      → (round_model start).IsSummary (boots.child (later_from (confirms_of rounds) p) (later_number p i)) child_summary.second
   summary_below = second_of
 
   pub later_more : (p : RoundNode PowerOn) (i j : ℕ) → IsLater p i → i + j < width (confirms_of rounds) p → later_number p i + j < length (ops_of (later_from (confirms_of rounds) p))

@@ -7,7 +7,7 @@ use Rattle.mc_explore.proofs.BootWays.{child, child_began, first_child, later_ch
 use Rattle.mc_explore.specs.{declared.rounds.Both.{Both}, declared.rounds.Rounds.{Rounds}, inner.BootEnds.{end_at, ends_by, report_from, report_of, result_of}}
 use Rattle.mc_explore.specs.{declared.rounds.ChildBoot.{ChildBoot}, inner.BootEnds.{IsLikeNode, LieIn}, inner.BootTree.{began_at, begins_of, boot_model, confirms_of, later_from, later_number, model_of, root_of}}
 use Rattle.mc_explore.specs.{Right.{judged}, declared.expectation.Expectation.{Expectation}, declared.one_round.Summary.{Summary}}
-use Rattle.mc_explore.specs.{facts.Tails.{late_index, placed_at}, facts.Totals.{totals_weigh}, inner.OneRound.{GoesOnIn, one_round}}
+use Rattle.mc_explore.specs.{facts.Tails.{late_index, placed_at}, facts.Totals.{totals_weigh}, inner.OneRound.{GoesOnIn, round_model}}
 use Rattle.mc_explore.specs.{Boots.{at_cut, boots}, Rounds.{second_start, tree_of}, declared.rounds.BootTree.{BootTree}}
 use Rattle.mc_explore.specs.{inner.LastCuts.{AreLike}, inner.Table.{IsTailOf}, inner.Totals.{Totals, report_totals, totals}}
 use Rattle.mc_flash.specs.Usage.{Seen}
@@ -26,15 +26,15 @@ module _ (start : PowerOn) (rounds : Rounds) where
   module _ (parent child_summary : Both) (seen : Seen) (i : ℕ) where
     pub first_child_of : (p : RoundNode PowerOn) (boot : Boot) (ops : ℕ) (later : Summary)
         → IsChildOf (boot_model start rounds) p i (child_boots.First boot ops later) parent child_summary seen
-        → (s : PowerOn) × (p ≡ round_one s) × IsChildOf (one_round start) s i boot parent.first child_summary.first seen
+        → (s : PowerOn) × (p ≡ round_one s) × IsChildOf (round_model start) s i boot parent.first child_summary.first seen
     first_child_of (round_one s) boot ops later is = grind arith
     first_child_of (round_two began s) boot ops later is = absurd is.at_is.on_is
 
     pub later_child_of : (p : RoundNode PowerOn) (boot : Boot) → IsChildOf (boot_model start rounds) p i (child_boots.Second boot) parent child_summary seen
-        → IsChildOf (one_round start) (later_from (confirms_of rounds) p) (later_number p i) boot parent.second child_summary.second seen
+        → IsChildOf (round_model start) (later_from (confirms_of rounds) p) (later_number p i) boot parent.second child_summary.second seen
     later_child_of p boot is = grind arith
 
-  pub report_is : (s : PowerOn) (summary : Summary) → (one_round start).IsSummary s summary → report_from s ≡ shown summary.outcome
+  pub report_is : (s : PowerOn) (summary : Summary) → (round_model start).IsSummary s summary → report_from s ≡ shown summary.outcome
   report_is s summary is = some_same _ _ (sym (outcome_defined s).1 ∙ is.1.outcome_is)
 
   abbrev next : PowerOn → PowerOn
@@ -176,7 +176,7 @@ module _ (start : PowerOn) (rounds : Rounds) where
     AreTails at x = (p : RoundNode PowerOn) (i : ℕ) → IsChildOf (boot_model start rounds) p i at parent child_summary seen → LieIn (confirms_of rounds) p (child (confirms_of rounds) p i) x
 
     pub tails_first : (boot : Boot) (ops : ℕ) (later : Summary) (found : Option SharedTail)
-        → IfSome found (λ x. (s : PowerOn) (i : ℕ) → IsChildOf (one_round start) s i boot parent.first child_summary.first seen → GoesOnIn s i x)
+        → IfSome found (λ x. (s : PowerOn) (i : ℕ) → IsChildOf (round_model start) s i boot parent.first child_summary.first seen → GoesOnIn s i x)
         → IfSome found (AreTails (child_boots.First boot ops later))
     tails_first boot ops later None tails = tt
     tails_first boot ops later (Some x) tails = λ p i here.
@@ -185,8 +185,8 @@ module _ (start : PowerOn) (rounds : Rounds) where
         subst (λ q. LieIn (confirms_of rounds) p q x) (sym there) (subst (λ q. LieIn (confirms_of rounds) q (round_one (boots.child at.0 i)) x) (sym at.1) (first_lies at.0 i x (tails at.0 i at.2)))
 
     pub tails_later : (boot : Boot) (x : SharedTail) (found : Option SharedTail)
-        → ((s : PowerOn) (i : ℕ) → IsChildOf (one_round start) s i boot parent.second child_summary.second seen → GoesOnIn s i x)
-        → ((s : PowerOn) → (one_round start).IsSummary s parent.first → parent.round ≡ rounds_of.First → IfSome found (IsMovedBy (length (ops_of s)) x))
+        → ((s : PowerOn) (i : ℕ) → IsChildOf (round_model start) s i boot parent.second child_summary.second seen → GoesOnIn s i x)
+        → ((s : PowerOn) → (round_model start).IsSummary s parent.first → parent.round ≡ rounds_of.First → IfSome found (IsMovedBy (length (ops_of s)) x))
         → (parent.round ≡ rounds_of.Second → found ≡ Some x)
         → IfSome found (AreTails (child_boots.Second boot))
     tails_later boot x None goes moved same = tt
@@ -236,6 +236,7 @@ abbrev pub ends_of : BootTree → Both → Report
 ends_of t both = ends_by t.rounds (shown both.first.outcome) (shown both.second.outcome)
 
 pub ended_so : (t : BootTree) (both : Both) (path : List ℕ) → (model_of t).IsSummary (landed (model_of t).tree (model_of t).root path) both → ends_of t both ≡ report_of t path
+unfolding model_of
 ended_so t both path is =
     let p = landed (model_of t).tree (model_of t).root path in
     let one = report_is (begins_of t) t.rounds (began_at p) both.first is.first_is in
@@ -244,4 +245,5 @@ ended_so t both path is =
 
 -- Paths to one node end alike.
 pub same_end : (t : BootTree) (path other : List ℕ) → landed (model_of t).tree (model_of t).root path ≡ landed (model_of t).tree (model_of t).root other → report_of t path ≡ report_of t other
+unfolding model_of
 same_end t path other same = ap (end_at t.rounds) same

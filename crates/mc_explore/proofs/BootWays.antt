@@ -5,7 +5,7 @@ use Rattle.mc_tree.specs.{Tree.{RoundNode, round_one, round_two, two_rounds_chil
 use Rattle.mc_flash.specs.{Flash.{Content}, Usage.{Seen}}
 use Rattle.mc_boot.specs.{Plan.{PowerOn, again}, Restart.{confirmed_if}, facts.Run.{left_defined}, Outcome.{left_by, ops_of}, declared.boot.Boot.{Boot}}
 use Rattle.mc_walk.specs.TreeModel.{IsAt}
-use Rattle.mc_explore.specs.{Boots.{at_cut, boots, content_or}, Rounds.{second_start}, inner.OneRound.{IsOf, one_round}, facts.Occurring.{at_zero}, facts.Summaries.{first_on}, declared.one_round.Summary.{Summary}}
+use Rattle.mc_explore.specs.{Boots.{at_cut, boots, content_or}, Rounds.{second_start}, inner.OneRound.{IsOf, round_model}, facts.Occurring.{at_zero}, facts.Summaries.{first_on}, declared.one_round.Summary.{Summary}}
 use Rattle.mc_explore.specs.inner.BootTree.{began_at, HasFirst, IsLater, confirms_of, later_from, later_number, boot_model}
 use Rattle.mc_explore.specs.declared.rounds.Rounds.{Rounds}
 use Rattle.mc_explore.specs.declared.rounds.ChildBoot.TheVariants as child_boots
@@ -69,15 +69,15 @@ module _ (start : PowerOn) (rounds : Rounds) where
   of_second s of = ap (λ (y : PowerOn). again y (second_start (confirms_of rounds) s).content) of
 
   pub first_at : (s : PowerOn) (i : ℕ) (boot : Boot) (ops : ℕ) (later : Summary) (seen : Seen) → IsAt (boot_model start rounds) (round_one s) i (child_boots.First boot ops later) seen
-      → IsAt (one_round start) s i boot seen
+      → IsAt (round_model start) s i boot seen
   first_at s i boot ops later seen at = grind (arith, first_child)
 
-  pub at_first : (s : PowerOn) (i : ℕ) (boot : Boot) (ops : ℕ) (later : Summary) (seen : Seen) → IsAt (one_round start) s i boot seen → HasFirst rounds
+  pub at_first : (s : PowerOn) (i : ℕ) (boot : Boot) (ops : ℕ) (later : Summary) (seen : Seen) → IsAt (round_model start) s i boot seen → HasFirst rounds
       → i < length (ops_of s) → ops ≡ length (ops_of s)
-      → (one_round start).IsSummary (second_start (confirms_of rounds) s) later → IsAt (boot_model start rounds) (round_one s) i (child_boots.First boot ops later) seen
+      → (round_model start).IsSummary (second_start (confirms_of rounds) s) later → IsAt (boot_model start rounds) (round_one s) i (child_boots.First boot ops later) seen
   at_first s i boot ops later seen at two early same summary = grind (arith, first_child)
 
   -- Where the second round begins its boot is at its first operation.
   pub at_begin : (p : RoundNode PowerOn) (i : ℕ) (summary : Summary) (seen : Seen) → IsLater p i → later_number p i ≡ 0 → seen.content ≡ (later_from (confirms_of rounds) p).content
-      → seen.geometry ≡ start.geometry → (one_round start).IsSummary (later_from (confirms_of rounds) p) summary → IsAt (boot_model start rounds) p i (child_boots.Second summary.boot) seen
+      → seen.geometry ≡ start.geometry → (round_model start).IsSummary (later_from (confirms_of rounds) p) summary → IsAt (boot_model start rounds) p i (child_boots.Second summary.boot) seen
   at_begin p i summary seen later zero content layout is = grind (arith, at_zero, later_child, first_on)

@@ -11,7 +11,7 @@ use Rattle.mc_boot.specs.{Plan.{Plan, plan, PowerOn, again, power_on, powered}, 
 use Rattle.mc_boot.specs.{facts.Steps.{refused_here, step_counts, step_spends, stepped_here}, declared.boot.Boot.{Boot}, declared.outcome.Outcome.{Outcome}}
 use Rattle.mc_walk.specs.TreeModel.{AreTwinsOn, IsAt, IsChildOf, IsTwin, HasNext, ReachesNext}
 use Rattle.mc_tree.specs.inner.Weights.{AreTwins}
-use Rattle.mc_explore.specs.{inner.OneRound.{CanPass, GoesOnIn, IsOf, IsSummary, Passes, one_round}, Schedules.{EndsWith}}
+use Rattle.mc_explore.specs.{inner.OneRound.{CanPass, GoesOnIn, IsOf, IsSummary, Passes, round_model}, Schedules.{EndsWith}}
 use Rattle.mc_explore.specs.Boots.{at_cut, boots}
 use Rattle.mc_explore.specs.{declared.one_round.Summary.{Summary}, facts.Occurring.{at_is, at_zero, come_lands, lands_at}}
 
@@ -39,7 +39,7 @@ module _ (start : PowerOn) where
 
   -- ---- the next cut
 
-  module _ (x : PowerOn) (i : ℕ) (b b' : Boot) (old new : Seen) (at : IsAt (one_round start) x i b old) (early : i < length (ops_of x)) where
+  module _ (x : PowerOn) (i : ℕ) (b b' : Boot) (old new : Seen) (at : IsAt (round_model start) x i b old) (early : i < length (ops_of x)) where
     layout_here : old.geometry ≡ x.geometry
     layout_here = at.layout_is ∙ sym (ap (λ (y : PowerOn). y.geometry) at.on_is.0)
 
@@ -60,7 +60,7 @@ module _ (start : PowerOn) where
 
     -- The boot has made so many more.
     pub went_by : (k : ℕ) → b'.done ≡ i + k → ComesOn old (progress b) new (progress b') → all_of b' ≡ all_of b → IsBootOf new.geometry b' → Keeps old new
-        → IsAt (one_round start) x (i + k) b' new
+        → IsAt (round_model start) x (i + k) b' new
     went_by k count come whole layout keeps =
         let P : Geometry → Type 0 = λ y. HasCome (power_on x.rules y x.content) (progress b') new.content in
         let come' : HasCome x (progress b') new.content = subst P layout_here (come x.rules x.content come_here) in
@@ -81,7 +81,7 @@ module _ (start : PowerOn) where
 
     -- It happens, and the boot has made one more.
     pub went_on : (v : Unit {0}) → Steps (progress b) old (Ok v) (progress b') new → ComesOn old (progress b) new (progress b') → all_of b' ≡ all_of b → IsBootOf new.geometry b'
-        → Keeps old new → IsAt (one_round start) x (i + 1) b' new
+        → Keeps old new → IsAt (round_model start) x (i + 1) b' new
     went_on v steps come whole layout keeps =
         let some = some_to_come x (progress b) (at_cut x i) at.on_is.1.come (omega (arith, early, at.on_is.1.count_is)) in
         went_by 1 (stepped_here (progress b) (progress b') old new (Ok v) v refl some steps ∙ ap (λ n. n + 1) at.on_is.1.count_is) come whole layout keeps
@@ -102,22 +102,22 @@ module _ (start : PowerOn) where
   pass_spends b b' old new it has steps come = grind (arith, step_spends, not_refused)
 
   -- A child has one more before it.
-  pub can_pass : (b : Boot) (seen : Seen) → HasNext (one_round start) b seen → CanPass start b seen
+  pub can_pass : (b : Boot) (seen : Seen) → HasNext (round_model start) b seen → CanPass start b seen
   can_pass b seen has = (has.0, has.1, has.2, omega (arith, has.3), has.4)
 
-  pub goes_on : {E : Type 0} (b b' : Boot) (old new : Seen) (result : Result (Unit {0}) E) → Passes start b old result b' new → ReachesNext (one_round start) b old result b' new
+  pub goes_on : {E : Type 0} (b b' : Boot) (old new : Seen) (result : Result (Unit {0}) E) → Passes start b old result b' new → ReachesNext (round_model start) b old result b' new
   goes_on b b' old new (Ok v) p = (λ x i at more. p.0 x i at (omega (arith, more)), p.1)
   goes_on b b' old new (Err e) p = tt
 
   -- ---- the summary of a flash
 
   -- A boot that was cut, where its outcome was found before it.
-  pub cut_here : (x : PowerOn) (i : ℕ) (b : Boot) (f : Seen) (summary : Summary) → IsAt (one_round start) x i b f → i < length (ops_of x) → IsSummary x summary
+  pub cut_here : (x : PowerOn) (i : ℕ) (b : Boot) (f : Seen) (summary : Summary) → IsAt (round_model start) x i b f → i < length (ops_of x) → IsSummary x summary
       → IsCut x (at_cut x i) b (shown summary.outcome)
   cut_here x i b f summary at early t = grind arith
 
   -- A child whose boot goes on with that of its parent.
-  joined_here : (x : PowerOn) (i : ℕ) (b : Boot) (child parent : Summary) (f : Seen) (tail : SharedTail) → IsAt (one_round start) x i b f → i < length (ops_of x) → IsSummary x parent
+  joined_here : (x : PowerOn) (i : ℕ) (b : Boot) (child parent : Summary) (f : Seen) (tail : SharedTail) → IsAt (round_model start) x i b f → i < length (ops_of x) → IsSummary x parent
       → IsSummary (again x (at_cut x i)) child
       → ((y : Rules) (v : Content) (whole : Report) → IsCut (power_on y f.geometry v) f.content b whole → progress child.boot ≡ begun y (plan (powered y f))
       → IsSharedTail (power_on y f.geometry v) f.content tail)
@@ -132,18 +132,18 @@ module _ (start : PowerOn) where
   pub goes_on_here : (b : Boot) (child parent : Summary) (f : Seen) (found : Option SharedTail)
       → ((y : Rules) (v : Content) (whole : Report) → IsCut (power_on y f.geometry v) f.content b whole → progress child.boot ≡ begun y (plan (powered y f))
       → IfSome found (IsSharedTail (power_on y f.geometry v) f.content))
-      → IfSome found (λ tail. (x : PowerOn) (i : ℕ) → IsChildOf (one_round start) x i b parent child f → GoesOnIn x i tail)
+      → IfSome found (λ tail. (x : PowerOn) (i : ℕ) → IsChildOf (round_model start) x i b parent child f → GoesOnIn x i tail)
   goes_on_here b child parent f None joins = tt
   goes_on_here b child parent f (Some tail) joins = λ x i here. joined_here x i b child parent f tail here.at_is here.some here.parent_is.1 here.child_is.1 joins
 
   -- After a cut so many operations later the same boot begins.
-  pub twin_at : (x : PowerOn) (i j : ℕ) (b : Boot) (child : Summary) → (one_round start).IsOn x i b → (one_round start).IsSummary (boots.child x i) child → HasTwin x (at_cut x i) (b.done + j)
-      → (one_round start).IsSummary (boots.child x (i + j)) child × AreTwins boots (boots.child x (i + j)) (boots.child x i)
+  pub twin_at : (x : PowerOn) (i j : ℕ) (b : Boot) (child : Summary) → (round_model start).IsOn x i b → (round_model start).IsSummary (boots.child x i) child → HasTwin x (at_cut x i) (b.done + j)
+      → (round_model start).IsSummary (boots.child x (i + j)) child × AreTwins boots (boots.child x (i + j)) (boots.child x i)
   twin_at x i j b child on is has =
       let u : PowerOn = boots.child x i in
       let t : PowerOn = again x has.twin in
       let there : has.twin ≡ at_cut x (i + j) = lands_at x has.twin (i + j) (ap (λ n. at x (n + j)) (sym on.1.count_is) ∙ has.twin_is) in
-      let P : Content → Type 0 = λ s. (one_round start).IsSummary (again x s) child × AreTwins boots (again x s) u in
+      let P : Content → Type 0 = λ s. (round_model start).IsSummary (again x s) child × AreTwins boots (again x s) u in
       let both : P has.twin = (
         (
           of_next x has.twin on.0,
@@ -165,14 +165,14 @@ module _ (start : PowerOn) where
       ) in
       subst P there both
 
-  pub twin_here : (x : PowerOn) (i : ℕ) (b : Boot) (child : Summary) → (one_round start).IsOn x i b → (one_round start).IsSummary (boots.child x i) child → HasTwin x (at_cut x i) (b.done + 1)
-      → IsTwin (one_round start) x i child
+  pub twin_here : (x : PowerOn) (i : ℕ) (b : Boot) (child : Summary) → (round_model start).IsOn x i b → (round_model start).IsSummary (boots.child x i) child → HasTwin x (at_cut x i) (b.done + 1)
+      → IsTwin (round_model start) x i child
   twin_here x i b child on is has = let twin = twin_at x i 1 b child on is has in record { summary_is = twin.0; twins = twin.1 }
 
   -- A boot that went on over twins of a child.
-  pub passes_twins : (x : PowerOn) (i count : ℕ) (b b' : Boot) (child : Summary) (old new : Seen) → IsAt (one_round start) x i b old → i < length (ops_of x) → GoesOn b old b' new
-      → b'.done ≡ b.done + count → (one_round start).IsSummary (boots.child x i) child → ((j : ℕ) → 0 < j → j ≤ count → HasTwin x (at_cut x i) (b.done + j))
-      → IsAt (one_round start) x (i + count) b' new × AreTwinsOn (one_round start) x i count child
+  pub passes_twins : (x : PowerOn) (i count : ℕ) (b b' : Boot) (child : Summary) (old new : Seen) → IsAt (round_model start) x i b old → i < length (ops_of x) → GoesOn b old b' new
+      → b'.done ≡ b.done + count → (round_model start).IsSummary (boots.child x i) child → ((j : ℕ) → 0 < j → j ≤ count → HasTwin x (at_cut x i) (b.done + j))
+      → IsAt (round_model start) x (i + count) b' new × AreTwinsOn (round_model start) x i count child
   passes_twins x i count b b' child old new at early goes done is twins = (
     went_by x i b b' old new at early count (done ∙ ap (λ n. n + count) at.on_is.1.count_is) goes.come goes.whole goes.layout goes.keeps,
     record {
@@ -181,8 +181,8 @@ module _ (start : PowerOn) where
     },
   )
     where
-      there : (j : ℕ) → (0 < j → HasTwin x (at_cut x i) (b.done + j)) → (one_round start).IsSummary (boots.child x (i + j)) child
-      there zero twin = let same : i ≡ i + 0 = omega arith in subst (λ n. (one_round start).IsSummary (boots.child x n) child) same is
+      there : (j : ℕ) → (0 < j → HasTwin x (at_cut x i) (b.done + j)) → (round_model start).IsSummary (boots.child x (i + j)) child
+      there zero twin = let same : i ≡ i + 0 = omega arith in subst (λ n. (round_model start).IsSummary (boots.child x n) child) same is
       there (suc j) twin = (twin_at x i (suc j) b child at.on_is is (twin (omega arith))).0
 
   -- What runs a boot, and a boot that was cut.
@@ -194,7 +194,7 @@ module _ (start : PowerOn) where
     summary_run outcome ends = grind arith
 
     -- And that it was run.
-    pub summary_of : (x : PowerOn) (i : ℕ) (at : Boot) (outcome : Outcome) → IsAt (one_round start) x i at f → outcome_of (again x (at_cut x i)) ≡ Some (shown outcome)
+    pub summary_of : (x : PowerOn) (i : ℕ) (at : Boot) (outcome : Outcome) → IsAt (round_model start) x i at f → outcome_of (again x (at_cut x i)) ≡ Some (shown outcome)
         → IsSummary (again x (at_cut x i)) (record { boot = b; outcome = outcome })
     summary_of x i at outcome here is = grind arith
 
@@ -203,7 +203,7 @@ module _ (start : PowerOn) where
         ap (λ (y : Geometry). left_by (power_on start.rules y f.content)) (sym layout) ∙ come_left (powered start.rules f) q new.content (come start.rules f.content comes) end
 
     -- What holds of each boot that was cut so holds of this one.
-    pub cut_so : (P : PowerOn → Content → Type 0) (x : PowerOn) (i : ℕ) (at : Boot) (parent : Summary) → IsAt (one_round start) x i at f → i < length (ops_of x) → IsSummary x parent
+    pub cut_so : (P : PowerOn → Content → Type 0) (x : PowerOn) (i : ℕ) (at : Boot) (parent : Summary) → IsAt (round_model start) x i at f → i < length (ops_of x) → IsSummary x parent
         → ((y : PowerOn) (u : Content) → IsCut y u at (shown parent.outcome) → IsBootOf y.geometry b → progress b ≡ begun y.rules (plan (again y u)) → P y u)
         → P x (at_cut x i)
     cut_so P x i at parent here early summary holds = grind arith

@@ -9,7 +9,7 @@ use Rattle.mc_boot.specs.Plan.{PowerOn}
 use Rattle.mc_flash.specs.Usage.{Spent}
 use Rattle.mc_explore.specs.{declared.boot_row.BootRow.{BootRow}, declared.boot_row.Cuts.{Cuts}, declared.rounds.BootTree.{BootTree}, declared.rounds.Rounds.{Rounds}}
 use Rattle.mc_explore.specs.inner.BootRows.{IsPathOf, IsRowIn, IsRowOf, tree_in}
-use Rattle.mc_explore.specs.inner.BootTree.{begins_of, model_of, root_of}
+use Rattle.mc_explore.specs.inner.BootTree.{begins_of, model_is, model_of, root_of}
 use Rattle.mc_explore.specs.inner.Exploring.{AreKeys, Edge, FindsRow, IsFamily, IsOurs, IsSound, Rowed, explored, key_along}
 use Rattle.mc_explore.specs.Pages as listings
 use Rattle.mc_explore.specs.Subject as states
@@ -63,8 +63,8 @@ paths_in rounds start = tree.IsMember (tree_in rounds) (root_of rounds start)
 
 module _ (counted : Bool) (start : PowerOn) (rounds : Rounds) (bound : ℕ) (w : Walked BootTree) (ours : IsOurs counted start rounds bound w) where
   pub paths_are : IsPath (model_of w.flash_tree) w ≡ paths_in rounds start bound
-  paths_are =
-      ap (λ r. paths_in r (begins_of w.flash_tree) w.bound) ours.rounds_are ∙ ap (λ s. paths_in rounds s w.bound) ours.start_is ∙ ap (paths_in rounds start) ours.bound_is
+  paths_are = rw (model_is w.flash_tree) (
+      ap (λ r. paths_in r (begins_of w.flash_tree) w.bound) ours.rounds_are ∙ ap (λ s. paths_in rounds s w.bound) ours.start_is ∙ ap (paths_in rounds start) ours.bound_is)
 
   pub row_is : (path : List ℕ) (row : BootRow) → IsRowIn w.flash_tree path row → IsRowOf rounds start path row
   row_is path row is = subst (λ s. IsRowOf rounds s path row) ours.start_is (subst (λ r. IsRowOf r (begins_of w.flash_tree) path row) ours.rounds_are is)

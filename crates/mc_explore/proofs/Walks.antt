@@ -5,7 +5,7 @@ use Rattle.mc_boot.specs.{Boot.{Progress, left_of, progress}, Outcome.{after, sh
 use Rattle.mc_explore.proofs.Onwards.{ComesOn}
 use Rattle.mc_explore.specs.{Schedules.{CanOccur, CannotOccurAt, IsReplayed}, declared.one_round.OneRound.{OneRound}}
 use Rattle.mc_explore.specs.{declared.one_round.Summary.{Summary}, facts.Following.{cost_few}, facts.Occurring.{allowed_after, landed_again, occurs_allowed}}
-use Rattle.mc_explore.specs.{inner.OneRound.{IsSummary, begins, begun_of, one_round}, inner.View.{Followed, IsLoaded}}
+use Rattle.mc_explore.specs.{inner.OneRound.{IsSummary, begins, begun_of, one_round, one_round_is, round_model}, inner.View.{Followed, IsLoaded}}
 use Rattle.mc_explore.specs.Boots.{boots}
 use Rattle.mc_flash.specs.{Flash.{Content}, Usage.{Allows, Limits, Seen, Spent, most_operations}}
 use Rattle.mc_tree.specs.{Tree.{landed}}
@@ -42,10 +42,10 @@ module _ (counted : Bool) (start : PowerOn) (bound : ℕ) (path : List ℕ) (zer
   followed false is f s t = absurd cc
   followed true is f s t =
       let path_is : two.path ≡ path = f.0 ∙ from_root path in
-      let allowed = at_start path (subst (tree.IsMember boots (begun_of one) one.bound) path_is f.1) in
+      let allowed = at_start path (subst (tree.IsMember boots (begun_of one) one.bound) path_is (rw (one_round_is (begun_of one)) at f.1)) in
       let most : ℕ = most_operations start.rules.grain start.geometry in
-      let first : Spent (summary_cost (one_round start)) zero_walk.seen one.seen = subst (λ x. Spent (summary_cost (one_round x)) zero_walk.seen one.seen) l.start_is s in
-      let along : Spent (path_cost (one_round start) path) one.seen two.seen = subst (λ x. Spent (path_cost (one_round x) path) one.seen two.seen) one_start t in
+      let first : Spent (summary_cost (round_model start)) zero_walk.seen one.seen = rw (l.start_is, one_round_is start) at s in
+      let along : Spent (path_cost (round_model start) path) one.seen two.seen = rw (one_start, one_round_is start) at t in
       let cost = cost_few start start path l.valid refl allowed.1 in
       let at_most : length path * (2 * most) ≤ bound * (2 * most) = mul-le-mul_right (2 * most) allowed.0 in
       record {
@@ -56,7 +56,7 @@ module _ (counted : Bool) (start : PowerOn) (bound : ℕ) (path : List ℕ) (zer
         allowed = allowed;
         counted_is = ap (λ (x : Limits). x.counted) (along.limits ∙ first.limits) ∙ l.counted_is;
         no_allocation_failed = along.failed ∙ first.failed ∙ l.no_allocation_failed;
-        applied = sum most bound (path_cost (one_round start) path) (length path * (2 * most)) zero_walk.seen.usage.applied one.seen.usage.applied two.seen.usage.applied l.idle first.applied
+        applied = sum most bound (path_cost (round_model start) path) (length path * (2 * most)) zero_walk.seen.usage.applied one.seen.usage.applied two.seen.usage.applied l.idle first.applied
             along.applied cost at_most;
       }
     where
@@ -69,7 +69,7 @@ module _ (counted : Bool) (start : PowerOn) (bound : ℕ) (path : List ℕ) (zer
   stops false is f whole index at =
       let prefix : two.path ≡ take f.steps path = f.prefix ∙ from_root (take f.steps path) in
       let here : index ≡ f.steps = at ∙ ap length prefix ∙ length-take-le f.steps path (omega (arith, f.inside)) in
-      let member = at_start two.path f.member in
+      let member = at_start two.path (rw (one_round_is (begun_of one)) at f.member) in
       subst (CannotOccurAt start path) (sym here) (record {
         inside = f.inside;
         cut = (landed boots start two.path).content;
@@ -83,12 +83,15 @@ module _ (counted : Bool) (start : PowerOn) (bound : ℕ) (path : List ℕ) (zer
           let n : ℕ = f.steps + 1 in
           let occurs : CanOccur start (take n path) = ap (λ (o : Option Content). is_some o) e in
           let len : length (take n path) ≤ bound = omega (arith, length-take-le n path (omega (arith, f.inside)), f.inside, whole) in
-          absurd (f.no_child (at_one (take n path) (len, occurs_allowed start (take n path) occurs)))
+          absurd (f.no_child (rw (one_round_is (begun_of one)) (at_one (take n path) (len, occurs_allowed start (take n path) occurs))))
 
 -- ---- a replay
 
 module _ (counted : Bool) (start : PowerOn) (bound : ℕ) (path : List ℕ) (w : Walked OneRound) (summary : Summary) (f : Followed counted start bound path w)
-    (there : IsThere (one_round (begun_of w)) w summary) where
+    (here : IsThere (one_round (begun_of w)) w summary) where
+  there : IsThere (round_model (begun_of w)) w summary
+  there = rw (one_round_is (begun_of w)) at here
+
   abbrev cut : PowerOn
   cut = landed boots start path
 
@@ -99,7 +102,7 @@ module _ (counted : Bool) (start : PowerOn) (bound : ℕ) (path : List ℕ) (w :
   cut_is = landed_again start path
 
   pub summary_here : IsSummary (again start cut.content) summary
-  summary_here = grind arith
+  summary_here = grind (arith, there)
 
   pub layout_here : w.seen.geometry ≡ start.geometry
   layout_here = there.layout_is ∙ ap (λ (s : PowerOn). s.geometry) f.start_is
@@ -113,9 +116,9 @@ module _ (counted : Bool) (start : PowerOn) (bound : ℕ) (path : List ℕ) (w :
 
   -- There is room for the boot.
   pub room_here : Allows (left_of w.seen.geometry (progress summary.boot)) w.seen
-  room_here = grind arith
+  room_here = grind (arith, there)
 
   -- What it leaves is what the replay leaves.
   pub replayed : (q : Progress) (new : Seen) → ComesOn w.seen (progress summary.boot) new q → q.to_come ≡ []
       → IsReplayed start path (shown summary.outcome) new.content
-  replayed q new come end = grind (arith, allowed_after, come_left)
+  replayed q new come end = grind (arith, allowed_after, come_left, there)

@@ -1,4 +1,6 @@
 //! How the boots of a tree end, and where the nodes below a child lie among those below its parent.
+#![tactic(auto, unfolding(crate::specs::inner::BootTree::model_of, crate::specs::inner::OneRound::one_round))]
+
 ghost use Rattle.std.specs.Prelude.{◌≡◌};
 ghost use Rattle.mc_boot.specs.Outcome.{shown};
 ghost use Rattle.mc_explore.specs.inner.BootEnds.{ends_by};

@@ -1,5 +1,7 @@
 //! The tree of one round of boots or of two: a node lies in one of them, and its children are those of its round, and in the first round
 //! then those of the second round that begins after it.
+#![tactic(auto, unfolding(crate::specs::inner::BootTree::model_of, crate::specs::inner::OneRound::one_round))]
+
 use crate::rounds::{BootTree, Both, ChildBoot, Round, Rounds, go_between};
 use mc_flash::Flash;
 use mc_walk::FlashTree;

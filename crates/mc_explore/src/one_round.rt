@@ -1,5 +1,6 @@
 //! The tree of boots that are cut: a node is what a boot begins with, and its child of a number is what the next one begins with
 //! where that boot is cut before its operation of that number.
+#![tactic(auto, unfolding(crate::specs::inner::OneRound::one_round))]
 
 use mc_boot::{Boot, Outcome, SharedTail, has_twin, outcome_after, pass_twins};
 use mc_flash::Flash;
@@ -26,7 +27,7 @@ impl<'a> OneRound<'a> {
     ghost use Rattle.mc_boot.specs.Plan.{PowerOn, again};
     ghost use Rattle.mc_flash.specs.Usage.{Keeps, Allows, HasRoom, Spends, Stays};
     ghost use Rattle.mc_walk.specs.TreeModel.{HasChild, IsChild, IsChildOf, IsChildSummary};
-    ghost use Rattle.mc_explore.specs.inner.OneRound.{begins, one_round, most_of, BeginsOn, CanPass, CountsAtMost, GoesOnIn, HasRun, IsSummary, LeavesAlike, Passes};
+    ghost use Rattle.mc_explore.specs.inner.OneRound.{begins, one_round, round_model, most_of, BeginsOn, CanPass, CountsAtMost, GoesOnIn, HasRun, IsSummary, LeavesAlike, Passes};
 
     /// The boot at power-on from a flash. The secondary's image is hashed where it is none that the start is known to hold.
     pub fn boot<F: Flash>(&self, flash: &F) -> Boot
@@ -78,8 +79,8 @@ impl<'a> OneRound<'a> {
     /// same flash. Elsewhere the boot at power-on from the child.
     #[inline]
     pub fn derive<F: Flash>(&self, flash: &F, at: &Boot, parent: &Summary) -> Result<Summary, Boot>
-        requires { IsChild (one_round (begins self.now)) at.now parent.now (F.seen flash.now) }
-        ensures summary { IfOk result (IsChildSummary (one_round (begins self.now)) at.now
+        requires { IsChild (round_model (begins self.now)) at.now parent.now (F.seen flash.now) }
+        ensures summary { IfOk result (IsChildSummary (round_model (begins self.now)) at.now
             parent.now (F.seen flash.now)) }
         ensures left { OnOk result (LeavesAlike (begins self.now) at.now parent.now
             (F.seen flash.now)) }

@@ -79,6 +79,7 @@ fn follow<'a, F: Flash>(
 ///
 /// `CannotOccur` with the number of the first cut that is not less than the operations that its boot makes uncut; `Memory` where
 /// the flash was refused memory, which one that counts never is.
+#[tactic(auto, unfolding(crate::specs::inner::OneRound::one_round))]
 pub fn replay_on<F: Flash>(
     walk: Walk<F, OneRound<'_>>,
     cuts: &[u32],

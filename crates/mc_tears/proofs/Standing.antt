@@ -3,7 +3,7 @@ use Rattle.std.proofs.Common.{ap, arith, length-append, subst, sym, ◌∙◌}
 use Rattle.std.specs.Prelude.{Bool, Err, List, Option, Some, [], drop, false, if◌then◌else◌, length, refl, slice_get, take, true, ℕ, ◌++◌, ◌+◌, ◌<◌, ◌∷◌, ◌≡◌, ◌≤◌}
 use Rattle.mc_boot.specs.{Boot.{HasCome, Progress, left_of, progress, to_come}, Outcome.{first_then, happening, ops_of}, Plan.{PowerOn, plan}, declared.boot.Boot.{Boot}}
 use Rattle.mc_boot.specs.facts.Run.{come_count, come_ops, come_prefix, next_happens}
-use Rattle.mc_explore.specs.{Boots.{at_cut}, inner.OneRound.{CanPass, one_round}}
+use Rattle.mc_explore.specs.{Boots.{at_cut}, inner.OneRound.{CanPass, round_model}}
 use Rattle.mc_flash.specs.{Flash.{CanTry, Content, IsSized, apply}, Usage.{Checkpoint, Counts, HasRoom, Keeps, LeaveRoom, Limits, Seen, checkpoint_of, marked, plus, went_back}}
 use Rattle.mc_flash.specs.{declared.op.Op.{Op}, facts.Spends.{spent_back, stays_back}}
 use Rattle.mc_tear.proofs.Ranges.{range_of}
@@ -161,7 +161,7 @@ module _ (x : PowerOn) (at : Boot) (f : Seen) (s : Stands x at f) where
         }
 
     -- It goes on by that operation.
-    pub stands_next : (at' : Boot) (new : Seen) → ((y : PowerOn) (i : ℕ) → IsAt (one_round x) y i at f → i < length (ops_of y) → IsAt (one_round x) y (i + 1) at' new)
+    pub stands_next : (at' : Boot) (new : Seen) → ((y : PowerOn) (i : ℕ) → IsAt (round_model x) y i at f → i < length (ops_of y) → IsAt (round_model x) y (i + 1) at' new)
         → LeaveRoom new.usage.counts (left_of x.geometry (progress at')) (plus f.usage.counts (left_of x.geometry (progress at)))
         → new.usage.limits ≡ f.usage.limits → Stands x at' new × (at'.done ≡ at.done + 1)
     stands_next at' new goes more limits =
@@ -169,7 +169,7 @@ module _ (x : PowerOn) (at : Boot) (f : Seen) (s : Stands x at f) where
         let count = on.on_is.1.count_is in (
           record {
             layout = s.layout;
-            at_is = subst (λ m. IsAt (one_round x) x m at' new) (sym count) on;
+            at_is = subst (λ m. IsAt (round_model x) x m at' new) (sym count) on;
             allows = let allows = s.allows in rw limits (record { entries = omega (arith, allows.entries, more.entries); saved = omega (arith, allows.saved, more.saved) });
           },
           count,

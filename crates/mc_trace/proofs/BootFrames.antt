@@ -12,7 +12,8 @@ use Rattle.mc_flash.specs.{Flash.{Content, apply}, Geometry.{Geometry}, declared
 use Rattle.mc_output.specs.{Text.{AppendsPrefix}, facts.Prefixes.{IsOut, out_all, out_begun, out_more, out_prefix}}
 use Rattle.mc_trace.specs.Frames.{Shown, boot_frame, boot_frames, frame_of, frames_from, text_seen, torn_lines, up_to_cut}
 use Rattle.mc_trace.specs.{declared.frame.Frame.{Frame}, declared.frame.Look.{Look}}
-use Rattle.mc_trace.specs.inner.Walking.{IsFrameHere, IsFrameOf, length_to, model_of, shown_frame}
+use Rattle.mc_tree.specs.Tree.{landed}
+use Rattle.mc_trace.specs.inner.Walking.{IsFrameHere, IsFrameOf, length_to, model_of, shown_frame, width_along}
 use Rattle.mc_walk.specs.Walks.{Walked}
 
 -- The first of the operations that happen is the first of all.
@@ -81,8 +82,8 @@ module _ (list : List Op) (cut : Option ℕ) where
 -- They are those of the boot from the node where a walk from a start stands.
 module _ (start : PowerOn) (w : Walked OneRound) (start_is : begun_of w ≡ start) (cut : Option ℕ) (inside : IfSome cut (λ n. n < length (ops_of (boot_at start w.path)))) (to : ℕ)
     (to_is : to ≡ length_to cut (length (ops_of (boot_at start w.path)))) where
-  pub one_there : (number : ℕ) → number < to → number < length (ops_of (boot_at (begun_of w) w.path))
-  one_there number lt = rw start_is (omega (arith, lt, to_is, within (ops_of (boot_at start w.path)) cut inside))
+  pub one_there : (number : ℕ) → number < to → number < (model_of w.flash_tree).tree.width (landed (model_of w.flash_tree).tree (model_of w.flash_tree).root w.path)
+  one_there number lt = rw (width_along w.flash_tree w.path, start_is) (omega (arith, lt, to_is, within (ops_of (boot_at start w.path)) cut inside))
 
   pub one_shown : (number : ℕ) → number < to → number < length (up_to_cut cut (ops_of (boot_at start w.path)))
   one_shown number lt = omega (arith, lt, to_is, long (ops_of (boot_at start w.path)) cut inside)

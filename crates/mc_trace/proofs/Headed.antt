@@ -3,7 +3,7 @@ use Rattle.std.specs.Prelude.{List, None, Option, Some, [], length, ℕ, ◌+◌
 use Rattle.std.proofs.Common.{ap, subst, ◌∙◌}
 use Rattle.mc_boot.specs.{Outcome.{Report, ops_of, outcome_of, shown}, Plan.{PowerOn, again}}
 use Rattle.mc_explore.specs.{Schedules.{CanOccur}, declared.one_round.OneRound.{OneRound}, facts.Children.{IsAtChild}}
-use Rattle.mc_explore.specs.{declared.one_round.Summary.{Summary}, facts.Occurring.{allowed_occurs, occurs_allowed}, inner.LastCuts.{boot_at}, inner.OneRound.{begun_of}}
+use Rattle.mc_explore.specs.{declared.one_round.Summary.{Summary}, facts.Occurring.{allowed_occurs, occurs_allowed}, inner.LastCuts.{boot_at}, inner.OneRound.{begun_of, one_round_is}}
 use Rattle.mc_explore.specs.Boots.{at_cut, boots}
 use Rattle.mc_flash.specs.Flash.{Content}
 use Rattle.mc_trace.specs.{Frames.{boot_frames, boot_section, end_of, end_text, heading, heading_of, sections_text}, declared.frame.Look.{Look}, inner.Walking.{model_of}}
@@ -28,7 +28,7 @@ module _ (look : Look) (start : Content) (boot : ℕ) (x : PowerOn) where
 -- The outcome of the boot from the node where a walk stands.
 pub outcome_here : (start : PowerOn) (w : Walked OneRound) (summary : Summary) → begun_of w ≡ start → IsThere (model_of w.flash_tree) w summary
     → outcome_of (boot_at start w.path) ≡ Some (shown summary.outcome)
-outcome_here start w summary is there = subst (λ x. outcome_of (boot_at x w.path) ≡ Some (shown summary.outcome)) is there.summary_is.1.outcome_is
+outcome_here start w summary is there = subst (λ x. outcome_of (boot_at x w.path) ≡ Some (shown summary.outcome)) is (rw (one_round_is (begun_of w)) at there).summary_is.1.outcome_is
 
 -- The boot from the child at a cut.
 pub child_boot : (start : PowerOn) (old at : Walked OneRound) (cut : ℕ) → IsAtChild model_of old cut at

@@ -4,7 +4,7 @@ use Rattle.std.proofs.{Common.{List, ap, arith, length, refl, subst, sym, ℕ, �
 use Rattle.mc_boot.specs.{Outcome.{after, ops_of}, Plan.{PowerOn, again}, declared.boot.Boot.{Boot}, declared.shared_tail.SharedTail.{SharedTail}}
 use Rattle.mc_explore.specs.{Schedules.{CanOccur}, declared.one_round.OneRound.{OneRound}, declared.one_round.Summary.{Summary}}
 use Rattle.mc_explore.specs.{facts.Children.{IsAtChild, child_here, listed_there}, facts.Occurring.{occurs_allowed}}
-use Rattle.mc_explore.specs.inner.OneRound.{GoesOnIn, begins, begun_of, one_round}
+use Rattle.mc_explore.specs.inner.OneRound.{GoesOnIn, begins, begun_of, one_round, one_round_is}
 use Rattle.mc_explore.specs.Boots.{boots}
 use Rattle.mc_flash.specs.{Flash.{Content}, Usage.{Seen}}
 use Rattle.mc_tree.specs.{Tree.{Allowed, IsMember, landed}, facts.Order.{allowed_prefix}}
@@ -16,12 +16,16 @@ use Rattle.mc_vectors.proofs.Covered.{lands}
 abbrev pub model_of : OneRound → TreeModel PowerOn Boot Summary
 model_of t = one_round (begins t)
 
+-- A node has as many children as its boot makes operations.
+pub width_along : (t : OneRound) (path : List ℕ) → (model_of t).tree.width (landed (model_of t).tree (model_of t).root path) ≡ boots.width (landed boots (begins t) path)
+width_along t path = ap (λ (k : TreeModel PowerOn Boot Summary). k.tree.width (landed k.tree k.root path)) (one_round_is (begins t))
+
 same_begun : (old new : Walked OneRound) → IsSame old new → begun_of new ≡ begun_of old
 same_begun old new s = ap begins s.flash_tree
 
 -- The paths of a walk are those of the start.
 is_path : (x : PowerOn) (w : Walked OneRound) (bound : ℕ) (l : List ℕ) → begun_of w ≡ x → w.bound ≡ bound → IsMember boots x bound l → IsPath (model_of w.flash_tree) w l
-is_path x w bound l is few m = grind arith
+is_path x w bound l is few m = rw (one_round_is (begun_of w)) (grind arith)
 
 module _ (x : PowerOn) (schedule cuts : List ℕ) (fresh one two : Walked OneRound) (summary : Summary) (start_is : begun_of fresh ≡ x) (bound_is : fresh.bound ≡ length cuts + 1)
     (cuts_are : cuts ≡ schedule) (few : length schedule < 16) (occurs : CanOccur x schedule) (b : Begins (model_of fresh.flash_tree) fresh summary one) where
@@ -65,7 +69,7 @@ at_child x path w at number here some deep child = record {
   path_is = refl;
   begun_is = same_begun w at child.same ∙ here.begun_is;
   few = omega (arith, child.same.bound, here.few);
-  listed = listed_there model_of w here.listed number some deep at child;
+  listed = listed_there model_of w here.listed number (rw (width_along w.flash_tree w.path) some) deep at child;
 }
 
 -- Its boot goes on with the one that was cut, where that is known.
@@ -77,7 +81,8 @@ module _ (w : Walked OneRound) (f : Frame Boot Summary) (step : IsLastStep (mode
     tail,
     step.path_is,
     λ s at. subst (λ (y : PowerOn). GoesOnIn y f.number tail) (lands (begun_of w) step.before s at)
-        (goes (landed boots (begun_of w) step.before) f.number (child_here (model_of w.flash_tree) w f summary there step)),
+        (goes (landed boots (begun_of w) step.before) f.number (subst (λ (y : PowerOn). IsChildOf (model_of w.flash_tree) y f.number f.at f.parent summary w.seen)
+        (ap (λ (k : TreeModel PowerOn Boot Summary). landed k.tree k.root step.before) (one_round_is (begun_of w))) (child_here (model_of w.flash_tree) w f summary there step))),
   )
 
   pub goes_on : (flash_tree : OneRound) (seen : Seen) → flash_tree ≡ w.flash_tree → seen ≡ w.seen → (found : Option SharedTail)

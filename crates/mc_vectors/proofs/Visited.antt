@@ -3,7 +3,7 @@ use Rattle.std.specs.Prelude.{Contains, Err, IfOk, Ok, Result, Some, is_some, tr
 use Rattle.std.proofs.{Common.{List, [], ap, arith, length, length-append, subst, sym, ℕ, ◌++◌, ◌+◌, ◌<◌, ◌∙◌, ◌∷◌, ◌≡◌, ◌≢◌}, lemmas.List.{same_from_push}}
 use Rattle.mc_boot.specs.{Outcome.{after, left_by, ops_of, outcome_of, shown}, Plan.{PowerOn, again}, SharedTail.{index_in_parent}}
 use Rattle.mc_explore.specs.{facts.Occurring.{allowed_after, occurs_allowed}, facts.Tails.{placed_at}}
-use Rattle.mc_explore.specs.{inner.OneRound.{GoesOnIn, begun_of, one_round}, declared.one_round.OneRound.{OneRound}}
+use Rattle.mc_explore.specs.{inner.OneRound.{GoesOnIn, begun_of, one_round, one_round_is, round_model}, declared.one_round.OneRound.{OneRound}}
 use Rattle.mc_explore.specs.Boots.{at_cut, boots}
 use Rattle.mc_explore.specs.declared.one_round.Summary.{Summary}
 use Rattle.mc_flash.specs.Flash.{Content}
@@ -23,12 +23,15 @@ pushed x l u z i is one =
     )
 
 -- What a walk stands at.
-module _ (x : PowerOn) (path : List ℕ) (w : Walked OneRound) (at : IsAt x path w) (summary : Summary) (there : IsThere (one_round (begun_of w)) w summary) where
+module _ (x : PowerOn) (path : List ℕ) (w : Walked OneRound) (at : IsAt x path w) (summary : Summary) (here : IsThere (one_round (begun_of w)) w summary) where
+  there : IsThere (round_model (begun_of w)) w summary
+  there = rw (one_round_is (begun_of w)) at here
+
   pub stands_at : after x w.path ≡ Some w.seen.content
-  stands_at = grind (arith, allowed_after)
+  stands_at = grind (arith, allowed_after, there, rw (one_round_is (begun_of w)) at at.listed)
 
   pub ends_with : outcome_of (again x w.seen.content) ≡ Some (shown summary.outcome)
-  ends_with = grind arith
+  ends_with = grind (arith, there)
 
   pub geometry_is : w.seen.geometry ≡ x.geometry
   geometry_is = there.layout_is ∙ ap (λ (y : PowerOn). y.geometry) at.begun_is

@@ -5,7 +5,8 @@ use Rattle.mc_boot.specs.{Outcome.{outcome_of, shown}, Plan.{PowerOn}, declared.
 use Rattle.mc_campaign.specs.{Campaigns.{IsMember, Precedes}, Rounds.{cuts_along}, Rows.{HasOutcomes, campaigns}, Texts.{campaign_text}, inner.InRounds.{campaign_of, edge, first_or}}
 use Rattle.mc_campaign.specs.facts.{Cuts.{along_ordered}, InRounds.{next_campaign, rounds_back}, Listed.{all_rows, row_at, some_rest}, Paths.{listed_along, path_of, replayed_at, same_order}}
 use Rattle.mc_explore.specs.{Boots.{boots}, Rounds.{second_start, tree_of}, Rows.{outcome_text, slots_text}, declared.boot_row.BootRow.{BootRow}, declared.boot_row.Cuts.{Cuts}}
-use Rattle.mc_explore.specs.inner.{BootEnds.{report_in}, BootRows.{CanCountUp, IsRowOf, counted_up, tree_in}, BootTree.{began_at, later_from, root_of}, Exploring.{AreKeys, AreNextTexts, IsFamily, key_along}}
+use Rattle.mc_explore.specs.inner.{BootEnds.{report_in}, BootRows.{CanCountUp, IsRowOf, counted_up, tree_in}, BootTree.{began_at, later_from, model_is, root_of}, Exploring.{AreKeys, AreNextTexts, IsFamily, key_along}}
+use Rattle.mc_flash.specs.Usage.{most_operations}
 use Rattle.mc_tree.specs.{Tree.{Allowed, landed, round_one}, facts.Order.{pairs_in_order}}
 use Rattle.mc_explore.specs.declared.rounds.Rounds.TheVariants as kinds
 
@@ -61,5 +62,5 @@ campaigns_are_family = record {
   all_rows = all_rows;
   all_keys = λ start confirms path. sym (key_is start confirms path);
   all_ends = λ start confirms path. refl;
-  costs = λ start confirms. omega arith;
+  costs = λ start confirms t is two. rw (model_is t, two) (omega (arith, ap (λ (x : PowerOn). most_operations x.rules.grain x.geometry) is));
 }

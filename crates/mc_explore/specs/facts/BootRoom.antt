@@ -6,7 +6,7 @@ use Rattle.mc_flash.specs.{Geometry.{Geometry}, Usage.{Seen, Usage, most_operati
 use Rattle.mc_flash.specs.declared.flash.Grain.TheVariants as grains
 use Rattle.mc_start.specs.facts.Room.{limits_are}
 use Rattle.mc_walk.specs.Walks.{IsClear}
-use Rattle.mc_explore.specs.{Rounds.{more_of}, declared.rounds.Rounds.{Rounds}, inner.Exploring.{LoadsFor}, inner.BootTree.{boot_model}, inner.OneRound.{one_round}}
+use Rattle.mc_explore.specs.{Rounds.{more_of}, declared.rounds.Rounds.{Rounds}, inner.Exploring.{LoadsFor}, inner.BootTree.{boot_model}, inner.OneRound.{round_model}}
 use Rattle.mc_explore.specs.declared.rounds.Rounds.TheVariants as kinds
 
 -- A boot makes some operation at most.
@@ -16,7 +16,7 @@ some_operations grains.Unit g = omega arith
 
 module _ (start : PowerOn) (counted : Bool) (bound boots_for : ℕ) (f : Seen) (l : LoadsFor counted start boots_for f) where
   -- A flash that was loaded for so many boots more than there are cuts, or for more, serves for a walk: through one round, along schedules too.
-  pub clear_one : bound + 1 ≤ boots_for → IsClear (one_round start) bound f
+  pub clear_one : bound + 1 ≤ boots_for → IsClear (round_model start) bound f
   clear_one at_most =
       let g = start.geometry in
       let grain = start.rules.grain in

@@ -5,7 +5,8 @@ use Rattle.mc_boot.specs.{Outcome.{outcome_of, shown}, Plan.{PowerOn}}
 use Rattle.mc_explore.specs.{Boots.{boots}, Pages.{IsRest}, Rounds.{second_start}, Rows.{ShownRow, outcome_after, outcome_text, slots_text, subject}, Schedules.{IsMember}, Subject.{at_start, rows_of}}
 use Rattle.mc_explore.specs.{declared.boot_row.BootRow.{BootRow}, declared.boot_row.Cuts.{Cuts}}
 use Rattle.mc_explore.specs.facts.{Listed.{all_rows, lands_summary, row_at, some_rest}, Occurring.{member_of, path_of}, OneRoundPaths.{all_alike, ends_alike, from_second, in_second, one_round_cuts}}
-use Rattle.mc_explore.specs.inner.{BootRows.{CanCountUp, IsRowOf, counted_up, cuts_along, tree_in}, BootTree.{later_from, root_of}, Exploring.{AreKeys, AreNextTexts, Edge, IsFamily}}
+use Rattle.mc_explore.specs.inner.{BootRows.{CanCountUp, IsRowOf, counted_up, cuts_along, tree_in}, BootTree.{later_from, model_is, root_of}, Exploring.{AreKeys, AreNextTexts, Edge, IsFamily}}
+use Rattle.mc_flash.specs.Usage.{most_operations}
 use Rattle.mc_start.specs.Start.{schedule_text}
 use Rattle.mc_tree.specs.{Tree.{Allowed, Precedes}, facts.Order.{paths_in_order}, facts.Rounds.{later_lands}}
 use Rattle.mc_explore.specs.declared.rounds.Rounds.TheVariants as kinds
@@ -63,5 +64,5 @@ schedules_are_family = record {
   all_rows = λ start _ bound. subst (λ ls. IsRest (rows_of subject) (at_start start tt bound) (map (row_at start) ls)) (sym (all_alike false bound start start)) (all_rows start bound);
   all_keys = λ start _ path. sym (numbers_are start path);
   all_ends = λ start _ path. ends_alike start path;
-  costs = λ start _. omega arith;
+  costs = λ start _ t is one. rw (model_is t, one) (omega (arith, ap (λ (x : PowerOn). most_operations x.rules.grain x.geometry) is));
 }

@@ -1,13 +1,13 @@
 -- The tree of boots that are cut, in one round or in two, and how a walk goes through it.
 use Rattle.std.proofs.Common.{arith, subst, sym}
-use Rattle.std.specs.Prelude.{Bool, false, length, ℕ, ◌-◌, ◌<◌, ◌≡◌, ◌≤◌}
+use Rattle.std.specs.Prelude.{Bool, List, false, length, refl, ℕ, ◌-◌, ◌<◌, ◌≡◌, ◌≤◌}
 use Rattle.mc_boot.specs.{Boot.{left_of, progress}, Outcome.{ops_of}, Plan.{PowerOn}, Restart.{one_write}}
 use Rattle.mc_boot.specs.declared.boot.Boot.{Boot}
 use Rattle.mc_explore.specs.{declared.rounds.BootTree.{BootTree}, declared.rounds.Both.{Both}, declared.rounds.ChildBoot.{ChildBoot}, declared.rounds.Round.{Round}, declared.rounds.Rounds.{Rounds}}
-use Rattle.mc_explore.specs.{declared.one_round.Summary.{Summary}, inner.OneRound.{begins, most_of, one_round}}
+use Rattle.mc_explore.specs.{declared.one_round.Summary.{Summary}, inner.OneRound.{begins, most_of, round_model}}
 use Rattle.mc_explore.specs.{Boots.{boots}, Rounds.{second_start, tree_of}}
 use Rattle.mc_flash.specs.Usage.{Counts, LeaveRoom, no_counts, plus}
-use Rattle.mc_tree.specs.{Tree.{RoundNode, round_one, round_two}, facts.Rounds.{child_second}}
+use Rattle.mc_tree.specs.{Tree.{RoundNode, landed, round_one, round_two}, facts.Rounds.{child_second}}
 use Rattle.mc_walk.specs.TreeModel.{TreeModel}
 use Rattle.mc_explore.specs.declared.rounds.Round.TheVariants as rounds_of
 use Rattle.mc_explore.specs.declared.rounds.Rounds.TheVariants as kinds
@@ -107,22 +107,22 @@ module _ (start : PowerOn) (rounds : Rounds) where
   pub record IsOnFirst (x : PowerOn) (i : ℕ) (boot : Boot) (ops : ℕ) (later : Summary) : Type 0 where
     pub inside : HasFirst rounds
     pub early : i < length (ops_of x)
-    pub made : (one_round start).IsOn x i boot
+    pub made : (round_model start).IsOn x i boot
     pub ops_is : ops ≡ length (ops_of x)
-    pub later_is : (one_round start).IsSummary (second_start (confirms_of rounds) x) later
+    pub later_is : (round_model start).IsSummary (second_start (confirms_of rounds) x) later
 
   -- A child of that number is on that way.
   abbrev pub IsChildBoot : ChildBoot → RoundNode PowerOn → ℕ → Type 0
   IsChildBoot (child_boots.First boot ops later) (round_one x) i = IsOnFirst x i boot ops later
   IsChildBoot (child_boots.First boot ops later) (round_two began x) i = ⊥
-  IsChildBoot (child_boots.Second boot) p i = IsLater p i × (one_round start).IsOn (later_from (confirms_of rounds) p) (later_number p i) boot
+  IsChildBoot (child_boots.Second boot) p i = IsLater p i × (round_model start).IsOn (later_from (confirms_of rounds) p) (later_number p i) boot
 
   -- The summary of a node: its round, the last boot of the first round, and the boot of the second.
   pub record AreSummaries (p : RoundNode PowerOn) (both : Both) : Type 0 where
     pub inside : IsInside rounds p
     pub round_is : both.round ≡ round_at p
-    pub first_is : (one_round start).IsSummary (began_at p) both.first
-    pub second_is : (one_round start).IsSummary (later_from (confirms_of rounds) p) both.second
+    pub first_is : (round_model start).IsSummary (began_at p) both.first
+    pub second_is : (round_model start).IsSummary (later_from (confirms_of rounds) p) both.second
 
   pub owed_more : (p : RoundNode PowerOn) (i : ℕ) (child_boot : ChildBoot) → IsChildBoot child_boot p i
       → LeaveRoom no_counts (owed_at start rounds ((tree_of (confirms_of rounds)).child p i)) (plus (left_of_child_boot start child_boot) (most_of start))
@@ -156,5 +156,15 @@ module _ (start : PowerOn) (rounds : Rounds) where
 abbrev pub begins_of : BootTree → PowerOn
 begins_of t = begins t.one_round
 
-abbrev pub model_of : BootTree → TreeModel (RoundNode PowerOn) ChildBoot Both
+unfoldable pub model_of : BootTree → TreeModel (RoundNode PowerOn) ChildBoot Both
 model_of t = boot_model (begins_of t) t.rounds
+
+-- Its users do not see into it. What they know of it:
+pub model_is : (t : BootTree) → model_of t ≡ boot_model (begins_of t) t.rounds
+unfolding model_of
+model_is t = refl
+
+pub summaries_at : (t : BootTree) (path : List ℕ) (both : Both) → (model_of t).IsSummary (landed (model_of t).tree (model_of t).root path) both
+    → AreSummaries (begins_of t) t.rounds (landed (tree_of (confirms_of t.rounds)) (root_of t.rounds (begins_of t)) path) both
+unfolding model_of
+summaries_at t path both is = is

@@ -3,7 +3,7 @@ use Rattle.std.specs.Prelude.{Bool, Err, IfSome, List, None, Ok, Option, Result,
 use Rattle.mc_boot.specs.Plan.{PowerOn}
 use Rattle.mc_explore.specs.{Pages.{IsRest}, Subject.{Explored, State, Subject, at_start, rows_of}, declared.ahead.Ahead.{Ahead}, declared.ahead.RowsAhead.{RowsAhead}}
 use Rattle.mc_explore.specs.{declared.boot_row.BootRow.{BootRow}, declared.boot_row.Cuts.{Cuts}, declared.rounds.BootTree.{BootTree}, declared.rounds.Rounds.{Rounds}}
-use Rattle.mc_explore.specs.inner.{BootEnds.{report_in}, BootRows.{CanCountUp, IsPathOf, IsRowOf, counted_up, cuts_along, tree_in}, BootTree.{begins_of, boot_model, model_of, root_of}}
+use Rattle.mc_explore.specs.inner.{BootEnds.{report_in}, BootRows.{CanCountUp, IsPathOf, IsRowOf, counted_up, cuts_along, tree_in}, BootTree.{begins_of, model_of, root_of}}
 use Rattle.mc_flash.specs.{Geometry.{IsLayout}, Usage.{Loads, RanOut, Seen, Spent}}
 use Rattle.mc_start.specs.Start.{IsNextText}
 use Rattle.mc_tree.specs.{Tree.{After, Allowed, IsNext, IsOver, Position, Precedes, Tree, landed}, facts.Existence.{all_from}, facts.Order.{IsOrder}}
@@ -71,8 +71,8 @@ module _ {C K R U : Type 0} (x : Subject C K R U) (edge : Edge C K R) where
     pub all_keys : (start : PowerOn) (choice : C) (path : List ℕ) → x.key (edge.row_at start choice path) ≡ key_along start choice path
     pub all_ends : (start : PowerOn) (choice : C) (path : List ℕ) → x.ends (edge.row_at start choice path) ≡ report_in start (edge.rounds_in choice) path
     -- and what a row costs
-    pub costs : (start : PowerOn) (choice : C) → (boot_model start (edge.rounds_in choice)).step + (boot_model start (edge.rounds_in choice)).all.entries
-        ≤ x.most_for_row start.rules start.geometry
+    pub costs : (start : PowerOn) (choice : C) (t : BootTree) → begins_of t ≡ start → t.rounds ≡ edge.rounds_in choice
+        → child_cost (model_of t) 0 ≤ x.most_for_row start.rules start.geometry
 
 -- What callers see of an explorer on that walk, of a start, under a choice and with so many cuts.
 abbrev pub explored : {B C K : Type 0} → PowerOn → C → ℕ → Walked B → Position K → Explored C K

@@ -1,6 +1,6 @@
 -- The tree of boots that are cut, and how a walk goes through it.
 use Rattle.std.proofs.Common.{arith}
-use Rattle.std.specs.Prelude.{Err, List, Ok, Result, Some, [], length, ℕ, ◌+◌, ◌<◌, ◌∷◌, ◌≡◌}
+use Rattle.std.specs.Prelude.{Err, List, Ok, Result, Some, [], length, refl, ℕ, ◌+◌, ◌<◌, ◌∷◌, ◌≡◌}
 use Rattle.mc_boot.specs.{Boot.{HasCome, IsBootOf, IsBounded, IsCold, all_of, begun, left_of, progress}, Outcome.{left_by, ops_of, outcome_of, shown}}
 use Rattle.mc_boot.specs.{Plan.{PowerOn, again, plan}, SharedTail.{IsSharedTail}, declared.boot.Boot.{Boot}}
 use Rattle.mc_boot.specs.declared.shared_tail.SharedTail.{SharedTail}
@@ -66,8 +66,8 @@ module _ (start : PowerOn) where
   IsOf x = x ≡ again start x.content
 
   -- One goes from a child to the next by one operation, and one boot finds the summary of a node.
-  abbrev pub one_round : TreeModel PowerOn Boot Summary
-  one_round = record {
+  abbrev pub round_model : TreeModel PowerOn Boot Summary
+  round_model = record {
     tree = boots;
     root = start;
     geometry = start.geometry;
@@ -85,19 +85,28 @@ module _ (start : PowerOn) where
 
   -- The boot of a node was cut before an operation that it makes uncut, and there is room for what it has left.
   abbrev pub CanPass : Boot → Seen → Type 0
-  CanPass b seen = (x : PowerOn) × (i : ℕ) × IsAt one_round x i b seen × (i < length (ops_of x)) × Allows (left_of start.geometry (progress b)) seen
+  CanPass b seen = (x : PowerOn) × (i : ℕ) × IsAt round_model x i b seen × (i < length (ops_of x)) × Allows (left_of start.geometry (progress b)) seen
 
   -- It has made that operation, and counts no more than it had left.
   abbrev pub Passes : {E : Type 0} → Boot → Seen → Result (Unit {0}) E → Boot → Seen → Type 0
   Passes b old (Ok _) b' new =
-      ((x : PowerOn) (i : ℕ) → IsAt one_round x i b old → i < length (ops_of x) → IsAt one_round x (i + 1) b' new)
+      ((x : PowerOn) (i : ℕ) → IsAt round_model x i b old → i < length (ops_of x) → IsAt round_model x (i + 1) b' new)
       × LeaveRoom new.usage.counts (left_of start.geometry (progress b')) (plus old.usage.counts (left_of start.geometry (progress b)))
   Passes b old (Err _) b' new = Unit {0}
 
   -- The uncut boot from a cut leaves what the boot that was cut would have left, with that summary.
   abbrev pub LeavesAlike : Boot → Summary → Seen → Type 0
   LeavesAlike b parent seen =
-      (x : PowerOn) (i : ℕ) → IsAt one_round x i b seen → i < length (ops_of x) → IsSummary x parent → left_by (boots.child x i) ≡ left_by x
+      (x : PowerOn) (i : ℕ) → IsAt round_model x i b seen → i < length (ops_of x) → IsSummary x parent → left_by (boots.child x i) ≡ left_by x
+
+-- The tree of a walk.
+unfoldable pub one_round : PowerOn → TreeModel PowerOn Boot Summary
+one_round start = round_model start
+
+-- Its users do not see into it. What they know of it:
+pub one_round_is : (start : PowerOn) → one_round start ≡ round_model start
+unfolding one_round
+one_round_is start = refl
 
 -- The boot after a cut goes on with the one that was cut: its flashes lie among those of that one, and both leave the same.
 abbrev pub GoesOnIn : PowerOn → ℕ → SharedTail → Type 0

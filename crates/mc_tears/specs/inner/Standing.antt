@@ -1,7 +1,7 @@
 -- Where the boot from a start has come to, and what is known of it.
 use Rattle.std.specs.{Io.KnownBytes.{Appends}, Prelude.{Bool, Err, List, Ok, Option, Result, Some, [], drop, false, if◌then◌else◌, length, slice_get, slice_index, true, ℕ, ⊤, ◌+◌, ◌<◌, ◌≡◌, ◌≢◌, ◌≤◌}}
 use Rattle.mc_boot.specs.{Boot.{left_of, progress}, Outcome.{ops_of}, Plan.{PowerOn, again}, declared.boot.Boot.{Boot}}
-use Rattle.mc_explore.specs.{Boots.{at_cut}, inner.OneRound.{IsSummary, most_of, one_round}}
+use Rattle.mc_explore.specs.{Boots.{at_cut}, inner.OneRound.{IsSummary, most_of, round_model}}
 use Rattle.mc_flash.specs.{Flash.{Content, IsSized, apply, size_of}, Geometry.{Geometry, IsLayout}, Usage.{Allows, Counts, HasRoom, Keeps, LeaveRoom, Seen, Stays, no_counts, plus}}
 use Rattle.mc_flash.specs.{declared.op.Op.{Op}, declared.op.Slot.{Slot}}
 use Rattle.mc_image.specs.Image.{IsBytes}
@@ -47,7 +47,7 @@ pub record StandsBefore (x : PowerOn) (b : Between) (f : Seen) : Type 0 where
 -- The boot from x has come so far, and the flash stands there. There is room for what it has left, and for a case.
 pub record Stands (x : PowerOn) (at : Boot) (f : Seen) : Type 0 where
   pub layout : IsLayout x.geometry
-  pub at_is : IsAt (one_round x) x at.done at f
+  pub at_is : IsAt (round_model x) x at.done at f
   pub allows : Allows (plus (left_of x.geometry (progress at)) (case_counts x)) f
 
 -- There is room for so many checkpoints.

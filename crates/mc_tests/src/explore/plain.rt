@@ -1,4 +1,6 @@
 //! A tree for tests: the boots from a start, each of them run for its outcome, which no other's is derived from.
+#![tactic(auto, unfolding(mc_explore::specs::inner::OneRound::one_round))]
+
 use mc_boot::Boot;
 use mc_explore::{OneRound, Summary};
 use mc_flash::Flash;

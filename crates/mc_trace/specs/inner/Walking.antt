@@ -1,8 +1,10 @@
 -- The frames of a boot as the walk gives them.
 use Rattle.std.specs.Prelude.{List, None, Option, Some, [], length, slice_get, true, ℕ, ◌++◌, ◌+◌, ◌∷◌, ◌≡◌, ◌≤◌}
+use Rattle.std.proofs.Common.{ap}
 use Rattle.mc_boot.specs.{Outcome.{ops_of, outcome_of, shown}, Plan.{PowerOn, again}, declared.boot.Boot.{Boot}}
-use Rattle.mc_explore.specs.{declared.one_round.OneRound.{OneRound}, declared.one_round.Summary.{Summary}, inner.LastCuts.{boot_at}, inner.OneRound.{begins, begun_of, one_round}}
+use Rattle.mc_explore.specs.{declared.one_round.OneRound.{OneRound}, declared.one_round.Summary.{Summary}, inner.LastCuts.{boot_at}, inner.OneRound.{begins, begun_of, one_round, one_round_is}}
 use Rattle.mc_explore.specs.Boots.{at_cut}
+use Rattle.mc_tree.specs.Tree.{landed}
 use Rattle.mc_walk.specs.{TreeModel.{TreeModel}, Walks.{IsPath, Walked}}
 use Rattle.mc_flash.specs.Flash.{Content}
 use Rattle.mc_trace.specs.{Frames.{Shown, is_target}, declared.frame.Frame.{Frame}}
@@ -26,6 +28,10 @@ IsFrameHere w boot cut f = (before : List ℕ) × (w.path ≡ before ++ f.number
 -- The tree of a walk.
 abbrev pub model_of : OneRound → TreeModel PowerOn Boot Summary
 model_of t = one_round (begins t)
+
+-- A node has as many children as its boot makes operations.
+pub width_along : (t : OneRound) (path : List ℕ) → (model_of t).tree.width (landed (model_of t).tree (model_of t).root path) ≡ length (ops_of (boot_at (begins t) path))
+width_along t path = ap (λ (k : TreeModel PowerOn Boot Summary). k.tree.width (landed k.tree k.root path)) (one_round_is (begins t))
 
 -- How many frames there are of so many operations.
 abbrev pub length_to : Option ℕ → ℕ → ℕ

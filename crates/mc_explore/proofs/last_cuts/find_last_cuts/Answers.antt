@@ -1,7 +1,7 @@
 use Rattle.std.proofs.Common.{List, arith, refl, rules, sym, ℕ, ◌∙◌}
 use Rattle.mc_explore.proofs.{BootTails.{tail_likes}, LastCuts.{joined_there, node_there, parent_there, told_turned}}
 use Rattle.mc_explore.proofs.last_cuts.find_last_cuts.Given.{Over}
-use Rattle.mc_explore.specs.{facts.Children.{child_here}, inner.{BootRows.{AreLikePaths, EndSoAt}, BootTree.{begins_of, model_of}, LastCuts.{IsJoined}}}
+use Rattle.mc_explore.specs.{facts.Children.{child_here}, inner.{BootRows.{AreLikePaths, EndSoAt}, BootTree.{begins_of, boot_model, model_is, model_of}, LastCuts.{IsJoined}}}
 use Rattle.mc_tree.specs.Tree.{landed}
 use Rattle.mc_walk.specs.TreeModel.{HasChild}
 use Rattle.mc_explore.proofs.last_cuts.find_last_cuts.Goals as goal
@@ -24,10 +24,11 @@ joined g c =
     let t = walk.flash_tree in
     let step = c.in_ok-step.step.now in
     let summary = c.summary-summary.result.now in
-    let found = rw c.flash_tree-flash_tree.ensures at (rw c.flash.ensures at c.tail_of.ensures) in
+    let k = boot_model (begins_of t) t.rounds in
+    let found = rw (c.flash.ensures, c.flash_tree-flash_tree.ensures, model_is t) at c.tail_of.ensures in
     let like = rw c.in_ok-shared_tail.was at (tail_likes (begins_of t) t.rounds step.parent summary walk.seen step.at c.tail_of.result found) in
-    joined_there (model_of t) walk step summary c.in_ok-parent_path.parent_path.now c.args.path.now c.in_ok-parent_path.field-0-0.now
-    c.in_ok-step.ensures.step c.summary-summary.ensures c.requires.path c.in_ok-parent_path.ensures.cases.0 (AreLikePaths t) c.in_ok-shared_tail.shared_tail like
+    rw (model_is t) (joined_there k walk step summary c.in_ok-parent_path.parent_path.now c.args.path.now c.in_ok-parent_path.field-0-0.now (rw (model_is t) at c.in_ok-step.ensures.step)
+    (rw (model_is t) at c.summary-summary.ensures) c.requires.path c.in_ok-parent_path.ensures.cases.0 (AreLikePaths t) c.in_ok-shared_tail.shared_tail like)
 
 pub returns-then-not-has_all-clause-kept : goal.returns-then-not-has_all-clause-kept
 returns-then-not-has_all-clause-kept g c = λ kept.

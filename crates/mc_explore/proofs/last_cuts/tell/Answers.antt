@@ -1,7 +1,7 @@
 use Rattle.std.proofs.Common.{arith, refl, sym, ◌∙◌, length, ap, List, ℕ}
 use Rattle.mc_explore.proofs.BootLast.{row_told, told_alike}
 use Rattle.mc_explore.proofs.LastCuts.{kept_more}
-use Rattle.mc_explore.specs.inner.{BootRows.{AreLikePaths, EndSoAt, node_of}, BootTree.{begins_of, model_of}}
+use Rattle.mc_explore.specs.inner.{BootRows.{AreLikePaths, EndSoAt, node_of}, BootTree.{begins_of, model_of, summaries_at}}
 use Rattle.mc_explore.proofs.last_cuts.tell.Goals as goal
 
 pub returns-then-cuts-bound-clause-kept : goal.returns-then-cuts-bound-clause-kept
@@ -21,7 +21,7 @@ returns-clause-ahead g c =
     let t = c.args.walk.now.flash_tree in
     let are = c.in_ok-shared_tail.ensures.cuts in
     let path = c.cuts-cuts.ensures.value in
-    let summary = rw (sym c.requires.path) at c.summary.ensures.summary_is in
+    let summary = summaries_at t c.args.path.now c.summary.result.now (rw (sym c.requires.path) at c.summary.ensures.summary_is) in
     let row = rw (sym c.requires.path) at c.requires.row in
     let last = rw path at are in
     record {

@@ -1,7 +1,7 @@
 use Rattle.std.proofs.{Common.{List, [], ap, arith, false, length, subst, sym, true, Bool, ℕ, ◌++◌, ◌∙◌, ◌≡◌, ◌≤◌}, lemmas.List.{length-take-le}}
 use Rattle.mc_boot.specs.Plan.{PowerOn}
 use Rattle.mc_explore.specs.{declared.rounds.BootTree.{BootTree}, declared.rounds.Rounds.{Rounds}}
-use Rattle.mc_explore.specs.inner.{BootRows.{cuts_along, tree_in}, BootTree.{begins_of, model_of, root_of}}
+use Rattle.mc_explore.specs.inner.{BootRows.{cuts_along, tree_in}, BootTree.{begins_of, model_is, model_of, root_of}}
 use Rattle.mc_start.specs.Start.{begun}
 use Rattle.mc_tree.specs.{Tree.{IsMember}, facts.Order.{allowed_prefix}}
 use Rattle.mc_walk.specs.Walks.{Follows, IsPath, IsSame, Walked}
@@ -50,6 +50,6 @@ returns g c = λ bound member.
     let M : Rounds → PowerOn → Type 0 = λ k x. IsMember (tree_in k) (root_of k x) bound path in
     let there = subst (λ k. M k (begins_of old.flash_tree)) (sym rounds) (subst (M k) (sym start) (subst (IsMember (tree_in k) (root_of k x) bound) (sym value) member)) in
     let room : length path ≤ old.bound = omega (arith, begins.same.bound, loaded.bound_is, c.cuts-steps.ensures.at_most) in
-    let went = whole path old new c.in_ok-follow.field-0 begins.path (room, there.1) c.in_ok-follow.ensures.step in
+    let went = whole path old new c.in_ok-follow.field-0 begins.path (rw (model_is old.flash_tree) (room, there.1)) c.in_ok-follow.ensures.step in
     c.along.ensures ∙ ap (λ (t : BootTree). cuts_along t.rounds (begins_of t) new.path) same.flash_tree ∙ ap (λ k. cuts_along k (begins_of old.flash_tree) new.path) rounds
     ∙ ap (λ x. cuts_along k x new.path) start ∙ ap (cuts_along k x) (went ∙ value)

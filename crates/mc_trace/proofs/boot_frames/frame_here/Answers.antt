@@ -2,15 +2,14 @@ use Rattle.std.specs.Prelude.{◌≡◌, ◌<◌, Some, is_some, length, slice_g
 use Rattle.std.proofs.Common.{ap, refl, sym, subst, ◌∙◌}
 use Rattle.mc_boot.specs.{Boot.{progress, to_come}, Outcome.{ops_of, outcome_of}, Plan.{again}, facts.Steps.{none_first}}
 use Rattle.mc_flash.specs.Flash.{Content}
-use Rattle.mc_explore.specs.{facts.Children.{child_here}, inner.LastCuts.{boot_at}, inner.OneRound.{begun_of}}
+use Rattle.mc_explore.specs.{facts.Children.{child_here}, inner.LastCuts.{boot_at}, inner.OneRound.{begun_of, one_round_is, round_model}}
 use Rattle.mc_explore.specs.Boots.{at_cut}
-use Rattle.mc_trace.specs.inner.Walking.{model_of}
 use Rattle.mc_trace.proofs.BootFrames.{one_to_come, op_here}
 use Rattle.mc_trace.proofs.boot_frames.frame_here.Goals as goal
 
 pub unreachable-requires-in_default-peek : goal.unreachable-requires-in_default-peek
 unreachable-requires-in_default-peek g c =
-    let step = c.in-Some.ensures.step in
+    let step = rw (one_round_is (begun_of c.args.walk.now)) at c.in-Some.ensures.step in
     let at = c.in-Some.step.now.at in
     let x = boot_at (begun_of c.args.walk.now) step.before in
     let on = step.at_is.on_is.1 in
@@ -20,11 +19,11 @@ unreachable-requires-in_default-peek g c =
 pub returns-clause-frame : goal.returns-clause-frame
 returns-clause-frame g c =
     let w = c.args.walk.now in
-    let step = c.in-Some.ensures.step in
     let f = c.in-Some.step.now in
+    let step = rw (one_round_is (begun_of w)) at c.in-Some.ensures.step in
     let x = boot_at (begun_of w) step.before in
     let on = step.at_is.on_is.1 in
-    let child = child_here (model_of w.flash_tree) w f c.summary.result.now c.summary.ensures step in
+    let child = child_here (round_model (begun_of w)) w f c.summary.result.now (rw (one_round_is (begun_of w)) at c.summary.ensures) step in
     let more = subst (λ (n : ℕ). n < length (ops_of x)) (sym on.count_is) step.some in (
       step.before,
       step.path_is,
@@ -39,4 +38,4 @@ returns-clause-frame g c =
     )
 
 pub returns-clause-layout : goal.returns-clause-layout
-returns-clause-layout g c = c.summary.ensures.layout_is
+returns-clause-layout g c = rw (one_round_is (begun_of c.args.walk.now)) at c.summary.ensures.layout_is

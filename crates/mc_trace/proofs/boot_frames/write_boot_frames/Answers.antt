@@ -6,8 +6,8 @@ use Rattle.mc_explore.specs.{declared.one_round.OneRound.{OneRound}, inner.LastC
 use Rattle.mc_output.specs.facts.Prefixes.{out_stops}
 use Rattle.mc_flash.specs.Usage.{Seen}
 use Rattle.mc_start.specs.Start.{begun}
-use Rattle.mc_trace.specs.{Frames.{torn_lines}, inner.Torn.{line_at}, inner.Walking.{length_to, model_of}}
-use Rattle.mc_trace.proofs.BootFrames.{all_shown, end_out, frame_begun, frame_is, frame_out, frames_begun, number_is, one_shown, one_there}
+use Rattle.mc_trace.specs.{Frames.{torn_lines}, inner.Torn.{line_at}, inner.Walking.{length_to, model_of, width_along}}
+use Rattle.mc_trace.proofs.BootFrames.{all_shown, end_out, frame_begun, frame_is, frame_out, frames_begun, number_is, one_shown, one_there, within}
 use Rattle.mc_trace.proofs.boot_frames.write_boot_frames.Given.{Over}
 use Rattle.mc_trace.proofs.boot_frames.write_boot_frames.Goals as goal
 use Rattle.mc_trace.proofs.boot_frames.write_boot_frames.Goals.{In_ok-go_to_child}
@@ -18,11 +18,17 @@ loop-number-init g c =
     let walk = c.args.walk.now in
     let all = width_here model_of walk c.flash_tree.result c.summary.result.now c.width-count.result c.flash_tree.ensures c.summary.ensures c.width-count.ensures in
     record {
-      to_is = c.frames_to-to.ensures ∙ ap (length_to c.args.cut) (all ∙ ap (λ x. length (ops_of (boot_at x walk.path))) c.requires.ready.start_is);
+      to_is = c.frames_to-to.ensures ∙ ap (length_to c.args.cut) (all ∙ width_along walk.flash_tree walk.path ∙ ap (λ x. length (ops_of (boot_at x walk.path))) c.requires.ready.start_is);
       at = λ n is. absurd (omega (arith, is));
       come = record { same = record { flash_tree = refl; bound = refl }; limits = refl; stands = c.requires.ready.stands; passed = refl };
       out = frames_begun c.args.look.now start.content c.args.boot (boot_at start walk.path) c.args.cut (g.W.Write.contents c.args.writer.now);
     }
+
+pub frames_to-to-requires : goal.frames_to-to-requires
+frames_to-to-requires g c =
+    let walk = c.args.walk.now in
+    let all = width_here model_of walk c.flash_tree.result c.summary.result.now c.width-count.result c.flash_tree.ensures c.summary.ensures c.width-count.ensures in
+    rw (all ∙ width_along walk.flash_tree walk.path ∙ ap (λ x. length (ops_of (boot_at x walk.path))) c.requires.ready.start_is) c.requires.inside
 
 pub go_to_child-requires-clause-passed : goal.go_to_child-requires-clause-passed
 go_to_child-requires-clause-passed g c =
@@ -65,8 +71,7 @@ lines_are g c =
     let walk = c.args.walk.now in
     let i = c.loop-number.invariant in
     c.requires.torn c.loop-number.number
-    (subst (λ y. c.loop-number.number < length (ops_of (boot_at y walk.path))) c.requires.ready.start_is
-    (one_there start walk c.requires.ready.start_is c.args.cut c.requires.inside _ i.to_is c.loop-number.number c.loop-number-test.true))
+    (omega (arith, c.loop-number-test.true, i.to_is, within (ops_of (boot_at start walk.path)) c.args.cut c.requires.inside))
 
 pub returns-in_err-write_seen-clause-written : goal.returns-in_err-write_seen-clause-written
 returns-in_err-write_seen-clause-written g c =

@@ -6,7 +6,7 @@ use Rattle.mc_explore.specs.{Schedules.{CanOccur}, facts.Children.{listed_there}
 use Rattle.mc_explore.specs.Boots.{at_cut}
 use Rattle.mc_output.specs.Text.{AppendsPrefix}
 use Rattle.mc_start.specs.Start.{begun}
-use Rattle.mc_trace.specs.{Frames.{boot_section, end_text, sections_text}, inner.Boots.{WritesText}, inner.Walking.{IsReady, model_of}}
+use Rattle.mc_trace.specs.{Frames.{boot_section, end_text, sections_text}, inner.Boots.{WritesText}, inner.Walking.{IsReady, model_of, width_along}}
 use Rattle.mc_trace.proofs.{Headed.{child_boot, first_occurs, last_is, next_is, outcome_here}, TornLines.{torn_first, torn_later}, Writing.{first_begun, then_begun, writes_then}}
 use Rattle.mc_trace.proofs.sections.+write_sections.Goals as goal
 
@@ -69,7 +69,7 @@ write_sections-requires g t c κs within =
     let here = c.in_ok-write_section-2.ensures.goes in
     let both = first_occurs x cut rest (subst (CanOccur x) c.in-Some.ensures.cases.0 c.requires.occurs) in
     let some = subst (λ y. cut < length (ops_of (boot_at y walk.path))) (sym c.requires.ready.start_is) both.0 in
-    let listed = listed_there model_of walk c.requires.ready.listed cut some (omega (arith, c.requires.ready.deep, c.in-Some.ensures.cases.1)) at here in
+    let listed = listed_there model_of walk c.requires.ready.listed cut (rw (width_along walk.flash_tree walk.path) some) (omega (arith, c.requires.ready.deep, c.in-Some.ensures.cases.1)) at here in
     let deep : length at.path + (length rest + 1) ≤ at.bound =
     omega (arith, c.requires.ready.deep, c.in-Some.ensures.cases.1, here.same.bound, ap length here.path, length-append walk.path (cut ∷ [])) in
     let occurs = subst (λ (y : PowerOn). CanOccur y rest) (sym (child_boot (begun c.args.start.now) walk at cut here)) both.1 in

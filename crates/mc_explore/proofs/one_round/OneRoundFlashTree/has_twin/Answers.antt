@@ -1,12 +1,12 @@
 use Rattle.std.proofs.Common.{ap, arith, subst, sym, ◌+◌, ◌∙◌, ◌≡◌}
 use Rattle.mc_boot.specs.{Boot.{HasCome, begun, progress}, Plan.{PowerOn, again, plan}, Twins.{HasTwin}}
 use Rattle.mc_explore.proofs.Onwards.{twin_here}
-use Rattle.mc_explore.specs.inner.OneRound.{begins}
+use Rattle.mc_explore.specs.inner.OneRound.{begins, one_round}
 use Rattle.mc_flash.specs.{Flash.{Content, IsSized}, Usage.{Seen}}
 use Rattle.mc_explore.proofs.one_round.OneRoundFlashTree.has_twin.Goals as goal
 
 pub returns : goal.returns
-returns g c = λ is x i at more summary.
+returns g c = unfold one_round in λ is x i at more summary.
     let f : Seen = g.F.Flash.seen c.args.flash.now in
     let layout = ap (λ (y : PowerOn). y.geometry) at.on_is.0 ∙ sym at.layout_is in
     let there = sym at.content_is in

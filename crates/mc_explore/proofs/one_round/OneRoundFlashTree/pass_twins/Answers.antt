@@ -1,12 +1,12 @@
 use Rattle.std.proofs.Common.{ap, arith, subst, sym, ◌+◌, ◌∙◌, ◌≡◌}
 use Rattle.mc_boot.specs.{Boot.{HasCome, begun, left_of, progress}, Plan.{PowerOn, again, plan}, Twins.{HasTwin}}
 use Rattle.mc_explore.proofs.Onwards.{passes_twins}
-use Rattle.mc_explore.specs.inner.OneRound.{begins}
+use Rattle.mc_explore.specs.inner.OneRound.{begins, one_round}
 use Rattle.mc_flash.specs.{Flash.{Content, IsSized}, Geometry.{Geometry}, Usage.{LeaveRoom, Seen, plus}}
 use Rattle.mc_explore.proofs.one_round.OneRoundFlashTree.pass_twins.Goals as goal
 
 pub returns-clause-passes : goal.returns-clause-passes
-returns-clause-passes g c =
+returns-clause-passes g c = unfold one_round in
     let old : Seen = g.F.Flash.seen c.args.flash.now in
     let new : Seen = g.F.Flash.seen c.pass_twins.new.flash in
     let b = c.args.at.now in

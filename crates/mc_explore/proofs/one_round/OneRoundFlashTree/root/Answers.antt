@@ -1,4 +1,5 @@
+use Rattle.mc_explore.specs.inner.OneRound.{one_round}
 use Rattle.mc_explore.proofs.one_round.OneRoundFlashTree.root.Goals as goal
 
 pub returns-clause-spends : goal.returns-clause-spends
-returns-clause-spends g c = c.run_and_return.ensures.spends
+returns-clause-spends g c = unfold one_round in c.run_and_return.ensures.spends

@@ -2,7 +2,7 @@ use Rattle.std.specs.Prelude.{List, [], suc, ℕ, ◌++◌, ◌+◌, ◌∷◌, 
 use Rattle.std.proofs.Common.{ap, arith, subst, ◌∙◌}
 use Rattle.mc_explore.specs.facts.Children.{HasCome, IsAtChild, can_pass, come_on, reached, width_here}
 use Rattle.mc_start.specs.Start.{begun}
-use Rattle.mc_vectors.proofs.{Arrived.{at_child, model_of, width_at}, Extended.{finished}, search.Search.expand.Given.{Over}}
+use Rattle.mc_vectors.proofs.{Arrived.{at_child, model_of, width_along, width_at}, Extended.{finished}, search.Search.expand.Given.{Over}}
 use Rattle.mc_vectors.proofs.search.Search.expand.Goals as goal
 use Rattle.mc_vectors.proofs.search.Search.expand.Goals.{In_ok-go_to_child}
 
@@ -28,7 +28,8 @@ pub visit-requires-clause-at : goal.visit-requires-clause-at
 visit-requires-clause-at g c =
     let x = (goal.at.visit-requires-clause-at g c).In_ok-go_to_child in
     let walk = c.in_ok-walk.walk in
-    let all = width_here model_of walk c.flash_tree.result c.summary.result.now c.width-count.result c.flash_tree.ensures c.summary.ensures c.width-count.ensures in
+    let all = width_here model_of walk c.flash_tree.result c.summary.result.now c.width-count.result c.flash_tree.ensures c.summary.ensures c.width-count.ensures
+    ∙ width_along walk.flash_tree walk.path in
     at_child (begun c.args.start.now) c.args.case.now.schedule walk c.go_to_child.new.walk c.loop-number.number c.in_ok-walk.ensures.at (omega (arith, c.loop-number-test.true, all))
     c.in_ok-walk.ensures.more (child g x)
 
@@ -52,6 +53,7 @@ returns-clause-expanded g c bound index e =
     let walk = c.in_ok-walk.walk in
     let p = c.args.case.now in
     let gone = c.loop-number.invariant.gone bound index e in
-    let all = width_here model_of walk c.flash_tree.result c.summary.result.now c.width-count.result c.flash_tree.ensures c.summary.ensures c.width-count.ensures in
+    let all = width_here model_of walk c.flash_tree.result c.summary.result.now c.width-count.result c.flash_tree.ensures c.summary.ensures c.width-count.ensures
+    ∙ width_along walk.flash_tree walk.path in
     finished x bound c.loop-number.self.cases.items index p gone.inside gone.here c.loop-number.number gone (λ u is.
     omega (arith, c.loop-number-test.false, all, width_at x p.schedule walk c.in_ok-walk.ensures.at u is))

@@ -6,6 +6,12 @@ use Rattle.mc_vectors.specs.{Cases.{flash_digest}, declared.case.Case.{Case}, in
 use Rattle.mc_vectors.proofs.{Known.{known_kept, known_put, was_known, was_new}, Visited.{fresh_here, geometry_is, known_here, stands_at}}
 use Rattle.mc_vectors.proofs.search.Search.visit.Goals as goal
 
+pub digest-requires : goal.digest-requires
+digest-requires g c =
+    subst (λ (k : Geometry). AreOfFlash k.sector c.args.self.now.cuts)
+    (sym (ap (λ (s : Seen). s.geometry) c.flash.ensures
+    ∙ geometry_is (begun c.args.start.now) c.args.walk.now.path c.args.walk.now c.requires.at c.summary-summary.result.now c.summary-summary.ensures)) c.requires.ready.cuts
+
 pub returns-then-not-branch-clause-ready : goal.returns-then-not-branch-clause-ready
 returns-then-not-branch-clause-ready g c =
     let old = c.args.self.now.known in
