@@ -44,5 +44,5 @@ pub const NOTE: &str = "</pre>
 pub const LEGEND: &str = "</pre>
 <p>A row is an operation of a boot: its number, the sectors of both slots before it, the operation, and what the boot comes to after a cut there: &#10003; right, &#8800; another image runs or stays than is expected, &#10007; no image runs.</p>
 <p class=\"l\"><i class=\"a\">a0</i> what sector 0 of the primary held at the start, <i class=\"b\">b0</i> of the secondary; <i class=\"a h\">a0~</i> a copy of it that is not done; <i class=\"n\">-</i> blank; <i class=\"t\">t</i> trailer; <i class=\"o\">*</i> anything else; <i class=\"n x\">-</i> the sector that the operation changes; <i class=\"a\">a2..a9</i> sectors 2 to 9; <i class=\"n\">-x3</i> three alike.</p>
-<p>Where torn operations are shown, the indented lines below an operation say what the next boot may read if power fails within it, and how that boot ends, if it ends otherwise than after a cut: busy, that the flash still says a swap is under way.</p>
+<p>Where torn operations are shown, indented lines below an operation say what the next boot may read if power fails within it, and how that boot ends: those cases that end otherwise than after a cut there. Busy: the flash still says that a swap is under way.</p>
 ";
