@@ -20,6 +20,9 @@ function life_line(words) {
 // What is expected in the slots. Frames and a picture of two images take it from their kind, and have no --all-right.
 export const in_slots = expected => expected.filter(([option]) => option.startsWith("--expect-"));
 
+// Whether a picture has torn operations too.
+export const torn_too = tears => tears ? [["--torn"], ["--erase", tears]] : [];
+
 // Each with a title.
 export function command_lines(setup, cuts) {
   const { numbers, source, rules, expected, bound, names } = setup, start = [...numbers, ...source, ...rules];
@@ -29,7 +32,7 @@ export function command_lines(setup, cuts) {
     ["Each operation", "trace", at],
     ["The sectors then", "sectors", [...at, ["--words", "all"]]],
     ["The outcome, and the flash at the cut", "replay", [...at, ["--at-cut", "cut.flash"]]],
-    ["A page to send", "picture", [...at, ...in_slots(expected)]],
+    ["A page to send", "picture", [...at, ...in_slots(expected), ...torn_too(setup.tears)]],
   ];
   if (setup.tears) lines.push(["Power lost within an operation of the next boot", "tears", [...at, ["--erase", setup.tears], ...expected]]);
   const said = lines.map(([title, command, more]) => [title, command_line(command, [...start, ...more], names)]);

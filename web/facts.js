@@ -1,6 +1,6 @@
 "use strict";
 // What the program says of one start: each question is asked once, and its answer kept.
-import { in_slots } from "./commands.js";
+import { in_slots, torn_too } from "./commands.js";
 import { Lost, Refused, bytes_of, flash, run, run_judged } from "./program.js";
 import { torn_of } from "./tears.js";
 import { fields_of, frames_of, kind_of, schedule_text, slots_of } from "./texts.js";
@@ -85,9 +85,9 @@ export class Facts {
   }
 
   // What frames and a picture are asked by: a schedule, the first and the last of each boot's operations, and what is expected.
-  framed(command, cuts, first, last, signal) {
+  framed(command, cuts, first, last, signal, more = []) {
     const span = [["--schedule", schedule_text(cuts)], ["--from", String(first)], ["--to", String(last)]];
-    return this.of_start(command, [...span, ...in_slots(this.setup.expected)], signal);
+    return this.of_start(command, [...span, ...in_slots(this.setup.expected), ...more], signal);
   }
 
   // The frames of the boot after the cuts, from one number up to another.
@@ -95,11 +95,11 @@ export class Facts {
     return frames_of(await this.framed("frames", cuts, from, to - 1, signal), this.sector_bytes);
   }
 
-  // A page of the boots of a schedule, with all their operations.
+  // A page of the boots of a schedule, with all their operations; torn ones too, where these are asked about.
   async picture(cuts) {
     const outcomes = await Promise.all([...cuts, null].map((_, i) => this.outcome(cuts.slice(0, i))));
     const most = Math.max(1, ...outcomes.map(text => Number(fields_of(text).ops)));
-    return this.framed("picture", cuts, 0, most - 1, this.ending.signal);
+    return this.framed("picture", cuts, 0, most - 1, this.ending.signal, torn_too(this.setup.tears));
   }
 
   // Whether the schedule ends as expected: a kind as `kind_of` says it. A schedule of as many cuts as are allowed has none below it.

@@ -38,6 +38,11 @@ test("a page to send has all operations of the longest boot", async () => {
   assert.equal(words.at(-1), "picture --sector 256 --kind test --image-a a --image-b b --grain call --schedule 9.4 --from 0 --to 17");
 });
 
+test("a page to send has torn operations where they are asked about", async () => {
+  const words = await words_of(() => new Facts({ ...OF_IMAGES, tears: "rough" }).picture([9]));
+  assert.match(words.at(-1), /^picture .* --schedule 9 --from 0 --to 17 --torn --erase rough$/);
+});
+
 test("a schedule is judged alone", async () => {
   const range = async cuts => (await words_of(() => new Facts(OF_IMAGES).kind(cuts)))[0].split("--grain call ")[1];
   assert.equal(await range([]), "--cuts 0 --limit 2 --all-right");

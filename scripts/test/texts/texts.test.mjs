@@ -39,6 +39,10 @@ test("torn operations are a command where they are asked about", () => {
   assert.equal(line_of(OF_IMAGES, "Power lost within an operation of the next boot"), undefined);
 });
 
+test("a picture has torn operations where they are asked about", () => {
+  assert.match(line_of({ ...OF_IMAGES, tears: "gentle" }, "A page to send"), / --schedule 9\.4 --torn --erase gentle$/);
+});
+
 test("the dump at the end of a life is made first", () => {
   const life = ["life", "--sector=256", "--image", "a", "--out", "out", "c"], lines = command_lines({ ...OF_FLASH, life }, []);
   assert.deepEqual(lines[0], ["The dump, of files a and b and a script", "./mcsim life --sector=256 --image a --out dump.bin script"]);
