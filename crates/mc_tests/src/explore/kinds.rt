@@ -14,7 +14,6 @@ use std::alloc::{AllocError, Global};
 use std::process::Abort;
 
 /// A walk from a start through the plain tree, along paths of at most two cuts.
-#[tactic(auto, unfolding(mc_explore::specs::inner::OneRound::one_round))]
 fn plain_walk<'a>(
     alloc: Global,
     start: &'a Start,
