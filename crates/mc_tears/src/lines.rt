@@ -28,7 +28,7 @@ fn all_lines<F: Flash>(
     requires stands { Stands (begins rounds.now) whole.now.summary.boot (F.seen flash.old) }
     requires marks { CanMark 2 (F.seen flash.old) }
     requires buffer { HoldsSlot (F.seen flash.old).geometry (vec_capacity buffer.old) }
-    ensures { let x = begins rounds.now in IfOk result (λ lines. map (λ text. text.items) lines.items
+    ensures { let x = begins rounds.now in IfOk result (λ all. map (λ text. text.items) all.items
         ≡ map (number_text asked.now x) (numbers x)) }
 {
     let mut here = whole.begin();
@@ -53,7 +53,7 @@ pub fn tear_lines<F: Flash + Drop>(
     start: &Start,
     asked: &Asked,
 ) -> Result<Vec<Vec<u8>>, TearError>
-    ensures { let x = begun start.now in IfOk result (λ lines. map (λ text. text.items) lines.items
+    ensures { let x = begun start.now in IfOk result (λ all. map (λ text. text.items) all.items
         ≡ map (number_text asked.now x) (numbers x)) }
 {
     let rounds = OneRound { start };

@@ -110,7 +110,8 @@ loop-number-preserved g c =
       at = λ m e. let same : n ≡ m = omega (arith, e) in subst (λ k. IsAtChild model_of walk k at) same here;
       come = subst (λ k. HasCome model_of walk k at) one (come_on model_of walk n at here);
       out = frame_out c.args.look.now start.content c.args.boot (boot_at start walk.path) c.args.cut n at.seen.content _ is number more _
-          (c.line_at.ensures ∙ lines_are g (goal.at.loop-number-preserved g c).In_ok-go_to_child) start.geometry layout (g.W.Write.contents c.args.writer.now) (g.W.Write.contents c.loop-number.writer) (g.W.Write.contents c.write_seen.new.writer) i.out
+          (c.line_at.ensures ∙ lines_are g (goal.at.loop-number-preserved g c).In_ok-go_to_child) start.geometry layout
+          (g.W.Write.contents c.args.writer.now) (g.W.Write.contents c.loop-number.writer) (g.W.Write.contents c.write_seen.new.writer) i.out
           (rw c.flash.ensures at c.in_ok-write_seen.ensures);
     }
 

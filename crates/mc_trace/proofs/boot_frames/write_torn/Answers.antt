@@ -14,7 +14,8 @@ pub returns-in_err-write_text-2 : goal.returns-in_err-write_text-2
 returns-in_err-write_text-2 g c =
     let lines = c.args.lines.now in
     let failed = err_from_is_err_and c.from_residual-in_err-write_text-2.result c.from_residual-in_err-write_text-2.ensures.1 in
-    rw (failed.1, row_is lines (grind (arith, nat_tests))) (then_begun _ _ _ (codes "<pre class=\"t\">") _ c.in_ok-write_text.ensures.whole (first_begun _ _ lines (codes "</pre>\n") c.in_err-write_text-2.ensures.prefix))
+    rw (failed.1, row_is lines (grind (arith, nat_tests))) (then_begun _ _ _ (codes "<pre class=\"t\">") _ c.in_ok-write_text.ensures.whole
+    (first_begun _ _ lines (codes "</pre>\n") c.in_err-write_text-2.ensures.prefix))
 
 pub returns : goal.returns
 returns g c =

@@ -21,8 +21,8 @@ pub returns-clause-begun : goal.returns-clause-begun
 returns-clause-begun g c =
     let e = c.args.expectation.now in
     let look = c.page_look-look.ensures ∙ ap (λ (x : Geometry). page_look x e c.args.span c.args.torn) c.layout.ensures.value in
-    begins c.args.version.now e c.args.span c.args.torn c.args.start.now c.args.schedule.now c.page_look-look.result c.in_ok-verdict.verdict c.in_ok-verdict.ensures.verdict look _ _ c.write_page.result
-    c.write_page.ensures.written
+    begins c.args.version.now e c.args.span c.args.torn c.args.start.now c.args.schedule.now c.page_look-look.result c.in_ok-verdict.verdict c.in_ok-verdict.ensures.verdict look _ _
+    c.write_page.result c.write_page.ensures.written
 
 pub returns-clause-refused : goal.returns-clause-refused
 returns-clause-refused g c = refused (begun c.args.start.now) c.args.schedule.now _ _ c.write_page.result c.write_page.ensures.err
