@@ -292,11 +292,11 @@ first-not-right none...<pre class=\"y\">result boot; type revert; ops 115; SWAPP
 </pre>
 </html>
 $ picture WORKED --kind perm IMAGES --torn
-...<b>5</b>...</em></div>
+...</em></div>
 <pre class=\"t\">5 magic=good,image-ok=unset boot test 18 2.0.0+0/80 1.0.0+0/80 revert rest
 5 magic=good,image-ok=bad boot none 0 1.0.0+0/80 2.0.0+0/80 none busy
 </pre>
-<div class=\"r...<b>6</b>...
+<div class=\"r e\"><b>6</b>...
 </html>
 $ picture WORKED --kind perm IMAGES --torn --erase gentle --profile 3 --from 5 --to 5
 ...</em></div>
@@ -305,8 +305,7 @@ $ picture WORKED --kind perm IMAGES --torn --erase gentle --profile 3 --from 5 -
 <h2>outcome</h2>...
 </html>
 $ picture WORKED --kind test IMAGES --torn --schedule 9 --from 8
-...<h2>boot 1 test 9</h2>
-<div class=\"r s\">...</em></div>
+...</em></div>
 <pre class=\"t\">8 copy-done=bad boot none 0 2.0.0+0/80 1.0.0+0/80 none rest
 </pre>
 <h2>outcome</h2>...
